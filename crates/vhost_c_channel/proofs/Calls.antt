@@ -65,8 +65,8 @@ went law asked _ old new (goes {w = w} {awaited = awaited} head is out) = let t 
 }
 
 pub asks : TalksLaw → (i : ReverseInput PlainHandle) (k : ReverseCall PlainHandle) → i ≡ input.Asks k → (old new : Channel) (head : Option Head) → AsksValue event i (channel old.channel) (Ok (Sent head)) (channel new.channel)
-    → new.outgoing ≡ old.outgoing → new.asked ≡ Some head → new.incoming.count ≡ 0 → arrived old ≡ [] → Asks k old new
-asks law i k is old new head asked outgoing kept count none =
+    → new.outgoing ≡ old.outgoing → new.asked ≡ Some head → new.incoming.count ≡ 0 → arrived old ≡ [] → new.held ≡ old.held → Asks k old new
+asks law i k is old new head asked outgoing kept count none held =
     let half : AsksHalfFor event (reverse_ask (remembers old) k) (channel old.channel) (Ok head) (channel new.channel) = subst (λ (j : ReverseInput PlainHandle). AsksValue event j (channel old.channel) (Ok (Sent head)) (channel new.channel)) is asked in
     let x = went law (reverse_ask (remembers old) k) head (endpoint_of old) (endpoint_of new) half.0 in
     record {
@@ -78,6 +78,7 @@ asks law i k is old new head asked outgoing kept count none =
       memory = ap {A = link.Channel Ends PlainHandle} backend_of half.1;
       nothing_came = count;
       nothing_waits = x.came ∙ none;
+      held = held;
       sound = x.sound;
     }
 
@@ -111,7 +112,7 @@ no-memory k old new d is some same = subst {A = declared.Error} (λ x. Refused k
 
 -- ---- what was asked in between was asked of the session before, where nothing but its places changed
 
-module _ (k : ReverseCall PlainHandle) (old mid new : Channel) (queue : queued mid ≡ queued old) (memory : remembers mid ≡ remembers old) (asked : mid.asked ≡ old.asked) (incoming : mid.incoming ≡ old.incoming)
+module _ (k : ReverseCall PlainHandle) (old mid new : Channel) (queue : queued mid ≡ queued old) (memory : remembers mid ≡ remembers old) (asked : mid.asked ≡ old.asked) (incoming : mid.incoming ≡ old.incoming) (held : mid.held ≡ old.held)
     (end : endpoint_of mid ≡ bare (endpoint_of old)) where
   unasked-since : (r : Refusal) → Unasked k mid new r → Unasked k old new r
   unasked-since _ (session.refuses e is left) = session.refuses e (subst {A = Backend} (λ b. reverse_ask b k ≡ Refuses (seen_io e)) memory is) (left ∙ ap bare end)
@@ -128,9 +129,10 @@ module _ (k : ReverseCall PlainHandle) (old mid new : Channel) (queue : queued m
     memory = a.memory ∙ memory;
     nothing_came = a.nothing_came;
     nothing_waits = a.nothing_waits;
+    held = a.held ∙ held;
     sound = sound-since (ap (λ (e : End). e.broken) end) (ap (λ (e : End). e.link.script) end) a.sound;
   }
-  asking-since (Err r) (why, stays) = (session.unasked (unasked-since r why), record { queue = stays.queue ∙ queue; memory = stays.memory ∙ memory; asked = stays.asked ∙ asked; incoming = stays.incoming ∙ incoming })
+  asking-since (Err r) (why, stays) = (session.unasked (unasked-since r why), record { queue = stays.queue ∙ queue; memory = stays.memory ∙ memory; asked = stays.asked ∙ asked; incoming = stays.incoming ∙ incoming; held = stays.held ∙ held })
 
 -- what is to be sent is the same once it was collected
 pub collected : (before taken pending now : List (Cell PlainHandle)) → pending ≡ before ++ taken → now ≡ [] → pending ++ now ≡ before ++ taken

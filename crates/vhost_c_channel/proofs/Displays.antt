@@ -51,8 +51,8 @@ went law sent old new out =
     let t = law (record old.endpoint { list = true }) new _ serves.talks in (t.1, none-handed (stream old.endpoint) (stream new) t.0, sound-since refl refl (sound (record old.endpoint { list = true }) new serves))
 
 pub asks : TalksLaw → (c : GpuCall PlainHandle) (old new : Display) (kept : Option Awaited) → AsksHalf event c (channel old.channel) (Ok kept) (channel new.channel)
-    → new.outgoing ≡ old.outgoing → new.asked ≡ Some kept → new.incoming.count ≡ 0 → arrived old ≡ [] → Asks c old new
-asks law c old new kept (keeps, goes, same) outgoing asked count none =
+    → new.outgoing ≡ old.outgoing → new.asked ≡ Some kept → new.incoming.count ≡ 0 → arrived old ≡ [] → new.held ≡ old.held → Asks c old new
+asks law c old new kept (keeps, goes, same) outgoing asked count none held =
     let w = went law (gpu_row c) (channel old.channel) (endpoint_of new) goes in
     let before = old.outgoing.link.pending in let sent = (endpoint_of old).link.sent in
     let behind : queued new ≡ queued old ++ gpu_front (gpu_row c) =
@@ -66,6 +66,7 @@ asks law c old new kept (keeps, goes, same) outgoing asked count none =
       mark = ap {A = link.Channel Ends PlainHandle} (λ x. x.failed) same;
       nothing_came = count;
       nothing_waits = w.1 ∙ none;
+      held = held;
       sound = w.2;
     }
 
@@ -94,7 +95,7 @@ no-memory c old new d is some same = subst {A = declared.Error} (λ x. Refused c
 
 -- ---- what was asked in between was asked of the session before, where nothing but its places changed
 
-module _ (c : GpuCall PlainHandle) (old mid new : Display) (queue : queued mid ≡ queued old) (mark : mark_of mid ≡ mark_of old) (asked : mid.asked ≡ old.asked) (incoming : mid.incoming ≡ old.incoming)
+module _ (c : GpuCall PlainHandle) (old mid new : Display) (queue : queued mid ≡ queued old) (mark : mark_of mid ≡ mark_of old) (asked : mid.asked ≡ old.asked) (incoming : mid.incoming ≡ old.incoming) (held : mid.held ≡ old.held)
     (end : endpoint_of mid ≡ bare (endpoint_of old)) where
   unasked-since : (r : Refusal) → Unasked c mid new r → Unasked c old new r
   unasked-since _ (session.not_sent e after why left) =
@@ -110,9 +111,10 @@ module _ (c : GpuCall PlainHandle) (old mid new : Display) (queue : queued mid �
     mark = a.mark ∙ mark;
     nothing_came = a.nothing_came;
     nothing_waits = a.nothing_waits;
+    held = a.held ∙ held;
     sound = sound-since (ap {A = State Ends PlainHandle} (λ e. e.broken) end) (ap {A = State Ends PlainHandle} (λ e. e.link.script) end) a.sound;
   }
-  asking-since (Err r) (why, stays) = (session.unasked (unasked-since r why), record { queue = stays.queue ∙ queue; mark = stays.mark ∙ mark; asked = stays.asked ∙ asked; incoming = stays.incoming ∙ incoming })
+  asking-since (Err r) (why, stays) = (session.unasked (unasked-since r why), record { queue = stays.queue ∙ queue; mark = stays.mark ∙ mark; asked = stays.asked ∙ asked; incoming = stays.incoming ∙ incoming; held = stays.held ∙ held })
 
 -- ---- replies
 

@@ -18,6 +18,7 @@ use Rattle.vhost_frontend_req_handler.specs.Halves as halves
 use Rattle.vhost_frontend_req_handler.specs.declared.call.FrontendSideCall.{FrontendSideCall}
 use Rattle.vhost_c_common.proofs.Hearing.{hears-cut, replies-told}
 use Rattle.vhost_c_common.proofs.Wants.{sound}
+use Rattle.vhost_c_common.specs.Held.{LetsGo, Released}
 use Rattle.vhost_c_common.specs.declared.outgoing.Outgoing.{Outgoing}
 use Rattle.vhost_c_common.specs.declared.refusal.Refusal.{Refusal}
 use Rattle.vhost_c_common.specs.declared.refusal.Refusal.TheVariants.{OtherCall}
@@ -47,8 +48,8 @@ module _ (s : ChannelServer) (nobody : (m : Request) (c : FrontendSideCall Plain
 -- ---- the next request
 
 pub begins : TalksLaw → (old new : ChannelServer) (number : ℕ) (c : FrontendSideCall PlainHandle) (b : halves.BeginsCall event old.core c new.core) → new.outgoing ≡ old.outgoing → new.incoming.count ≡ 0 → number ≡ call_number c
-    → new.call ≡ Some c → serving.Begins number old new
-begins law old new number c b outgoing count is call =
+    → new.call ≡ Some c → new.held ≡ old.held → serving.Begins number old new
+begins law old new number c b outgoing count is call held =
     let m = b.reads.message in let cut = hears-cut law (split backend_request_of backend_allows_handles) (endpoint_of old.core) (endpoint_of new.core) (Ok m) b.reads.hears in
     record {
       message = m;
@@ -67,6 +68,7 @@ begins law old new number c b outgoing count is call =
       memory = b.server;
       queue = ap {A = Outgoing} (λ q. q.link.pending ++ (endpoint_of new.core).link.sent) outgoing ∙ ap (λ xs. old.outgoing.link.pending ++ xs) cut.1;
       nothing_came = count;
+      held = held;
       sound = sound (endpoint_of old.core) (endpoint_of new.core) b.reads.hears.serves;
     }
 
@@ -93,8 +95,8 @@ keeps request a old new result (halves.stopped stops same) = same
 -- what is answered to a reply where a call is to be replied to
 pub answers : TalksLaw → (a : Result ℕ IoError) (old new : ChannelServer) (result : Result ℕ declared.Error) (outcome : Result ⊤ Refusal)
     → ((request : code.Request BackendReq) → old.core.pending ≡ Some request → IsReady (endpoint_of old.core) → halves.Concludes event request a (endpoint_of old.core) (server_in old.core) result (endpoint_of new.core) (server_in new.core))
-    → new.outgoing ≡ old.outgoing → new.incoming ≡ old.incoming → outcome ≡ told result → has_call new ≡ false → has_call old ≡ true → Answering a old outcome new
-answers law a old new result outcome goes outgoing incoming is idle some = record {
+    → new.outgoing ≡ old.outgoing → new.incoming ≡ old.incoming → outcome ≡ told result → has_call new ≡ false → has_call old ≡ true → Released old.held new.held → Answering a old outcome new
+answers law a old new result outcome goes outgoing incoming is idle some released = record {
   one = λ m c x. let d = goes x.request x.is x.ready in record {
     result = result;
     concludes = concludes law x.request a old new result d outgoing;
@@ -104,4 +106,5 @@ answers law a old new result outcome goes outgoing incoming is idle some = recor
     incoming = incoming;
   };
   none = λ none. cc (sym some ∙ none);
+  held = subst (λ b. LetsGo b (has_call new) old.held new.held) (sym some) (subst (λ b. LetsGo true b old.held new.held) (sym idle) released);
 }

@@ -25,6 +25,7 @@ use Rattle.vhost_endpoint.specs.Memory.{stream}
 use Rattle.vhost_endpoint.specs.Talk.{State}
 use Rattle.vhost_backend_req.specs.Channel.{channel, backend_of}
 use Rattle.vhost_backend_req.specs.Halves.{with_flag}
+use Rattle.vhost_c_common.specs.Held.{Gets, HandsLoose, HoldsNone}
 use Rattle.vhost_c_common.specs.Incoming.{missing_in}
 use Rattle.vhost_c_common.specs.View as session
 use Rattle.vhost_c_common.specs.View.{End, View, IsEmpty, StaysSound, bare, unsent, view_of}
@@ -69,11 +70,12 @@ missing_for _ i = 0
 abbrev pub missing_of : Channel → ℕ
 missing_of s = missing_for s.asked s.incoming
 
--- A new session: it is sound and empty, nothing was agreed on, nothing is asked.
+-- A new session: it is sound and empty, nothing was agreed on, nothing is asked, no descriptor is held.
 pub record IsNew (s : Channel) : Type 0 where
   pub empty : IsEmpty (view s)
   pub asked : s.asked ≡ None
   pub memory : remembers s ≡ record { reply_ack = false; shared_object = false; shmem = false; config_change = false; failed = None }
+  pub held : HoldsNone s.held
 
 -- ---- what was agreed on
 
@@ -90,6 +92,7 @@ pub record Agrees (f : Feature) (on : Bool) (old new : Channel) : Type 0 where
   pub outgoing : new.outgoing ≡ old.outgoing
   pub asked : new.asked ≡ old.asked
   pub incoming : new.incoming ≡ old.incoming
+  pub held : new.held ≡ old.held
 
 -- ---- asks
 
@@ -120,6 +123,7 @@ pub record Asks (c : ReverseCall PlainHandle) (old new : Channel) : Type 0 where
   pub memory : remembers new ≡ remembers old
   pub nothing_came : new.incoming.count ≡ 0
   pub nothing_waits : arrived new ≡ []
+  pub held : new.held ≡ old.held
   pub sound : StaysSound (endpoint_of old) (endpoint_of new)
 
 -- Why the channel did not ask, and what that left of its end: its feature was not agreed on, and nothing that came before waits; or so the link failed of an end for which nothing came or is to be sent, whose calls fail for want of memory alone.
@@ -139,6 +143,7 @@ pub record Stays (old new : Channel) : Type 0 where
   pub memory : remembers new ≡ remembers old
   pub asked : new.asked ≡ old.asked
   pub incoming : new.incoming ≡ old.incoming
+  pub held : new.held ≡ old.held
 
 -- what a session answers to an ask
 abbrev pub Asking : ReverseCall PlainHandle → Channel → Result ⊤ Refusal → Channel → Type 0
@@ -160,6 +165,15 @@ Sending bytes fds count s outcome s' = session.Sending bytes fds count (view s) 
 abbrev pub Receiving : List ℕ → List ℤ → Channel → Result ⊤ Refusal → Channel → Type 0
 Receiving bytes fds s outcome s' = session.Receiving (missing_of s) bytes fds (view s) outcome (view s')
 
+-- what becomes of the descriptors that come with them
+abbrev pub Getting : List ℤ → Channel → Result ⊤ Refusal → Channel → Type 0
+Getting fds s outcome s' = Gets fds false s.held outcome s'.held
+
+-- what a call of C does that hands out descriptors that came
+abbrev pub LettingGo : List ℤ → ℕ → List ℤ → Channel → Result ⊤ Refusal → Channel → Type 0
+LettingGo before count after s (Ok done) s' = HandsLoose s.held before count after s'.held × (s' ≡ record s { held = s'.held })
+LettingGo before count after s (Err r) s' = ⊥
+
 -- ---- replies
 
 -- What came is what the definitions make of it, and the rest is left; or the link failed, whose calls fail for want of memory alone.
@@ -172,10 +186,11 @@ abbrev pub told : Result ℕ io.IoError → Result ⊤ Refusal
 told (Ok n) = Ok tt
 told (Err e) = Err (Protocol (error_in e InvalidMessage))
 
--- Nothing is asked any more, and what is remembered is as before.
+-- Nothing is asked any more, and what is remembered and held is as before.
 pub record Settles (old new : Channel) : Type 0 where
   pub asked : new.asked ≡ None
   pub memory : remembers new ≡ remembers old
+  pub held : new.held ≡ old.held
 
 -- What taking answers: a reply that came whole was read; or it announces another size than one has, and nothing of it is left; or none was awaited; or nothing was asked, or bytes of the reply are missing, and nothing changed.
 pub data Takes (old new : Channel) : Result ⊤ Refusal → Type 0 where

@@ -24,6 +24,7 @@ use Rattle.vhost_gpu_backend_req.specs.Channel as link
 use Rattle.vhost_gpu_backend_req.specs.Channel.{channel}
 use Rattle.vhost_gpu_backend_req.specs.Halves.{FrontUnsent, Keeps, reply_in}
 use Rattle.vhost_gpu_backend_req.specs.declared.call.Awaited.{Awaited}
+use Rattle.vhost_c_common.specs.Held.{Gets, HandsLoose, HoldsNone}
 use Rattle.vhost_c_common.specs.Incoming.{missing_in}
 use Rattle.vhost_c_common.specs.View as session
 use Rattle.vhost_c_common.specs.View.{View, IsEmpty, StaysSound, bare, unsent, view_of}
@@ -67,11 +68,12 @@ awaits_none _ = false
 abbrev pub view : Display → View (Option ℤ × Option (Option Awaited))
 view s = view_of s.outgoing (endpoint_of s) s.incoming (mark_of s, s.asked)
 
--- A new session: it is sound and empty, and nothing is asked.
+-- A new session: it is sound and empty, nothing is asked, and no descriptor is held.
 pub record IsNew (s : Display) : Type 0 where
   pub empty : IsEmpty (view s)
   pub asked : s.asked ≡ None
   pub mark : mark_of s ≡ None
+  pub held : HoldsNone s.held
 
 -- ---- asks
 
@@ -91,6 +93,7 @@ pub record Asks (c : GpuCall PlainHandle) (old new : Display) : Type 0 where
   pub mark : mark_of new ≡ mark_of old
   pub nothing_came : new.incoming.count ≡ 0
   pub nothing_waits : arrived new ≡ []
+  pub held : new.held ≡ old.held
   pub sound : StaysSound (endpoint_of old) (endpoint_of new)
 
 -- So the channel did not ask, of an end for which nothing came or is to be sent, and this is what that left of its end.
@@ -110,6 +113,7 @@ pub record Stays (old new : Display) : Type 0 where
   pub mark : mark_of new ≡ mark_of old
   pub asked : new.asked ≡ old.asked
   pub incoming : new.incoming ≡ old.incoming
+  pub held : new.held ≡ old.held
 
 -- what a session answers to an ask
 abbrev pub Asking : GpuCall PlainHandle → Display → Result ⊤ Refusal → Display → Type 0
@@ -131,12 +135,22 @@ Sending bytes fds count s outcome s' = session.Sending bytes fds count (view s) 
 abbrev pub Receiving : List ℕ → List ℤ → Display → Result ⊤ Refusal → Display → Type 0
 Receiving bytes fds s outcome s' = session.Receiving (missing_of s) bytes fds (view s) outcome (view s')
 
+-- what becomes of the descriptors that come with them
+abbrev pub Getting : List ℤ → Display → Result ⊤ Refusal → Display → Type 0
+Getting fds s outcome s' = Gets fds false s.held outcome s'.held
+
+-- what a call of C does that hands out descriptors that came
+abbrev pub LettingGo : List ℤ → ℕ → List ℤ → Display → Result ⊤ Refusal → Display → Type 0
+LettingGo before count after s (Ok done) s' = HandsLoose s.held before count after s'.held × (s' ≡ record s { held = s'.held })
+LettingGo before count after s (Err r) s' = ⊥
+
 -- ---- replies
 
--- Nothing is asked any more.
+-- Nothing is asked any more, and the same descriptors are held.
 pub record Settles (old new : Display) : Type 0 where
   pub asked : new.asked ≡ None
   pub mark : mark_of new ≡ mark_of old
+  pub held : new.held ≡ old.held
 
 -- what a session answers for what came
 abbrev pub told : {T : Type 0} → Result T io.IoError → Result T Refusal

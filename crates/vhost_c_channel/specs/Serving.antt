@@ -1,5 +1,5 @@
 -- What the calls of a frontend's session do: requests that it reads, the calls that they become, and what is replied.
-use Rattle.std.specs.Prelude.{◌≡◌, ◌<◌, ◌==◌, ◌||◌, nat_lt, ℕ, ℤ, Bool, true, false, List, ◌++◌, Option, Some, None, Result, Ok, Err, ⊤, is_some, ok_or, if◌then◌else◌}
+use Rattle.std.specs.Prelude.{◌≡◌, ◌<◌, ◌==◌, ◌||◌, nat_lt, ℕ, ℤ, Bool, true, false, List, ◌++◌, Contains, Option, Some, None, Result, Ok, Err, ⊤, is_some, ok_or, if◌then◌else◌}
 use Rattle.vhost_message.specs.BackendReq.{backend_request_of}
 use Rattle.vhost_message.specs.declared.backend_req.BackendReq.{BackendReq}
 use Rattle.vhost_message.specs.declared.error.Error as declared
@@ -22,6 +22,7 @@ use Rattle.vhost_frontend_req_handler.specs.Halves.{Refuses}
 use Rattle.vhost_frontend_req_handler.specs.declared.call.FrontendSideCall.{FrontendSideCall}
 use Rattle.vhost_frontend_req_handler.specs.declared.req_core.FrontendReqCore.{FrontendReqCore}
 use Rattle.vhost_c_common.specs.Carrying.{emptied}
+use Rattle.vhost_c_common.specs.Held.{Abandons, Claimed, Gets, HandsLoose, HoldsNone, LetsGo, Released, claimable}
 use Rattle.vhost_c_common.specs.Incoming.{missing_by}
 use Rattle.vhost_c_common.specs.Number.{error_number}
 use Rattle.vhost_c_common.specs.View as session
@@ -61,15 +62,20 @@ missing_of s = if has_call s then 0 else missing_by backend_request_of s.incomin
 abbrev pub end_number : ChannelServer → ℕ
 end_number s = if s.incoming.count == 0 || missing_of s == 0 then 10 else if nat_lt s.incoming.count MSG_HEADER_SIZE then 9 else 5
 
+-- whether nothing came of the next request: what comes now comes with its first byte
+abbrev pub is_first : ChannelServer → Bool
+is_first s = s.incoming.count == 0
+
 -- it, as the contracts of all sessions see one: with what it remembers, the request whose call is to be replied to with its body, and that call
 abbrev pub view : ChannelServer → View (Server × Option (code.Request BackendReq) × List ℕ × Option (FrontendSideCall PlainHandle))
 view s = view_of s.outgoing (endpoint_of s.core) s.incoming (remembers s, s.core.pending, s.core.body.value, s.call)
 
--- A new session: it is sound and empty, and no call is to be replied to.
+-- A new session: it is sound and empty, no call is to be replied to, and no descriptor is held.
 pub record IsNew (s : ChannelServer) : Type 0 where
   pub empty : IsEmpty (view s)
   pub memory : remembers s ≡ record { reply_ack = false; failed = None }
   pub idle : has_call s ≡ false
+  pub held : HoldsNone s.held
 
 -- Whether requests are replied to is set, and nothing else changes.
 pub record Acknowledges (on : Bool) (old new : ChannelServer) : Type 0 where
@@ -79,12 +85,17 @@ pub record Acknowledges (on : Bool) (old new : ChannelServer) : Type 0 where
   pub call : new.call ≡ old.call
   pub outgoing : new.outgoing ≡ old.outgoing
   pub incoming : new.incoming ≡ old.incoming
+  pub held : new.held ≡ old.held
 
 -- ---- bytes in and out
 
 -- what a session answers to bytes of a request: no more may come than are missing
 abbrev pub Receiving : List ℕ → List ℤ → ChannelServer → Result ⊤ Refusal → ChannelServer → Type 0
 Receiving bytes fds s outcome s' = session.Receiving (missing_of s) bytes fds (view s) outcome (view s')
+
+-- what becomes of the descriptors that come with them
+abbrev pub Getting : List ℤ → ChannelServer → Result ⊤ Refusal → ChannelServer → Type 0
+Getting fds s outcome s' = Gets fds (is_first s) s.held outcome s'.held
 
 -- what it answers where it is to hand out what is to be sent
 abbrev pub Sending : List ℕ → List ℤ → ℕ × ℕ → ChannelServer → Result ⊤ Refusal → ChannelServer → Type 0
@@ -107,7 +118,7 @@ pub record IsServed (m : Request) (c : FrontendSideCall PlainHandle) (s : Channe
   pub row : reverse_row_of m.request (remembers s) m ≡ Calls (call_in c) (with_number (remembers s) m)
   pub ready : IsReady (endpoint_of s.core)
 
--- The request that came is a message, as its stream is split, and its row makes this call. What is to be sent and what is remembered are as before.
+-- The request that came is a message, as its stream is split, and its row makes this call, which may claim the descriptors that came with it. What is to be sent and what is remembered are as before.
 pub record Begins (number : ℕ) (old new : ChannelServer) : Type 0 where
   pub message : Request
   pub call : FrontendSideCall PlainHandle
@@ -117,9 +128,10 @@ pub record Begins (number : ℕ) (old new : ChannelServer) : Type 0 where
   pub memory : remembers new ≡ remembers old
   pub queue : queued new ≡ queued old
   pub nothing_came : new.incoming.count ≡ 0
+  pub held : new.held ≡ old.held
   pub sound : StaysSound (endpoint_of old.core) (endpoint_of new.core)
 
--- It was refused, or trouble came first; nobody is asked, and nothing of the request is left.
+-- It was refused, or trouble came first; nobody is asked, nothing of the request is left, and nobody will claim what came with it.
 pub record Denies (e : declared.Error) (old new : ChannelServer) : Type 0 where
   pub mid : FrontendReqCore Ends PlainHandle
   pub refuses : Refuses event old.core e mid
@@ -128,6 +140,7 @@ pub record Denies (e : declared.Error) (old new : ChannelServer) : Type 0 where
   pub outgoing : new.outgoing ≡ old.outgoing
   pub idle : has_call new ≡ false
   pub nothing_came : new.incoming.count ≡ 0
+  pub held : Released old.held new.held
 
 -- What a session answers where it is to read the next request: the number of a call, or why not. It is never marked as failed.
 abbrev pub Nexts : ChannelServer → Result ℕ Refusal → ChannelServer → Type 0
@@ -189,7 +202,26 @@ pub record Replies (request : code.Request BackendReq) (a : Result ℕ IoError) 
   pub idle : has_call new ≡ false
   pub incoming : new.incoming ≡ old.incoming
 
--- What a session answers to a reply: one goes to the call of the message that was read, and none where there is none.
+-- What a session answers to a reply: one goes to the call of the message that was read, and none where there is none. What came with a call that was replied to, and was not claimed, nobody will claim.
 pub record Answering (a : Result ℕ IoError) (old : ChannelServer) (outcome : Result ⊤ Refusal) (new : ChannelServer) : Type 0 where
   pub one : (m : Request) (c : FrontendSideCall PlainHandle) (x : IsServed m c old) → Replies x.request a old outcome new
   pub none : has_call old ≡ false → (outcome ≡ Err NothingAsked) × (new ≡ old)
+  pub held : LetsGo (has_call old) (has_call new) old.held new.held
+
+-- ---- descriptors
+
+-- what a session answers to a claim of a descriptor: it came with the call that is to be replied to, and is the caller's now; or there is no such call, or it has none of that number that was not claimed
+abbrev pub Claiming : ℤ → ChannelServer → Result ⊤ Refusal → ChannelServer → Type 0
+Claiming fd s (Ok done) s' = (has_call s ≡ true) × Claimed fd s.held s'.held × (s' ≡ record s { held = s'.held })
+Claiming fd s (Err OtherCall) s' = (has_call s ≡ true → ¬ (Contains (claimable s.held) fd)) × (s' ≡ s)
+Claiming fd s _ s' = ⊥
+
+-- what a call of C does that hands out descriptors that nobody will claim
+abbrev pub LettingGo : List ℤ → ℕ → List ℤ → ChannelServer → Result ⊤ Refusal → ChannelServer → Type 0
+LettingGo before count after s (Ok done) s' = HandsLoose s.held before count after s'.held × (s' ≡ record s { held = s'.held })
+LettingGo before count after s (Err r) s' = ⊥
+
+-- what a call of C does after which the rest of a request will never come
+abbrev pub Abandoning : ChannelServer → Result ⊤ Refusal → ChannelServer → Type 0
+Abandoning s (Ok done) s' = Abandons (has_call s) s.held s'.held × (s' ≡ record s { held = s'.held })
+Abandoning s (Err r) s' = ⊥

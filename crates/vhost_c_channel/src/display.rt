@@ -7,7 +7,7 @@ ghost use Rattle.vhost_message.specs.declared.error.Error.TheVariants.{OutOfMemo
 
 use std::alloc::Global;
 use vhost_c_common::{
-    Incoming, Outgoing, Refusal, carry_out, empty, forget_sent, hand_out, receive,
+    Held, Incoming, Outgoing, Refusal, carry_out, empty, forget_sent, hand_out, receive,
 };
 use vhost_endpoint::talks_law;
 use vhost_gpu_backend_req::{Awaited, BackendInternal, GpuCall};
@@ -29,16 +29,19 @@ pub struct Display {
     outgoing: Outgoing,
     asked: Option<Option<Awaited>>,
     incoming: Incoming,
+    /// The descriptors that came: replies bring none that anybody may claim.
+    held: Held,
     alloc: Global,
 }
 
 impl Display {
-    ghost use Rattle.std.specs.Prelude.{None, []};
+    ghost use Rattle.std.specs.Prelude.{None, [], false};
     ghost use Rattle.vhost_gpu_backend_req.specs.Halves.{call_in, pixels_of};
     ghost use Rattle.vhost_gpu_message.specs.Replies.{display_info_of, display_info_text, edid_of, edid_text};
     ghost use Rattle.vhost_message.specs.Records.{u64_at};
     ghost use Rattle.vhost_message.specs.declared.limits.TheConstants.{MAX_MSG_TEXT};
     ghost use Rattle.vhost_protocol.specs.Gpu.{GpuReply, TheFeatures, TheDisplayInfo, TheEdid, gpu_record_size};
+    ghost use Rattle.vhost_c_common.specs.Held.{Gets, HandsLoose};
     ghost use Rattle.vhost_c_common.specs.Moving.{HandsOut};
     ghost use Rattle.vhost_c_common.specs.View.{Hands, HandsNone, Receives, TakesNone};
     ghost use Rattle.vhost_c_channel.specs.Display.{IsNew, Asking, AskingNow, endpoint_of, arrived, awaits_none, queued, view, missing_of, Takes, TakesRecord, TakesTo};
@@ -60,6 +63,7 @@ impl Display {
                 outgoing,
                 asked: None,
                 incoming: Incoming::new(),
+                held: Held::new(alloc),
                 alloc,
             }),
             Err(error) => Err(error),
@@ -116,6 +120,7 @@ impl Display {
         ensures reason { IfErr result (λ r. HandsNone bytes.new fds.new r) }
         ensures refused { IfErr result (λ _. queued self.new ≡ queued self.old) }
         ensures rest { Hands (view self.old) (view self.new) }
+        ensures held { self.new.held ≡ self.old.held }
     {
         if bytes.is_empty() || fds.len() < MAX_ATTACHED_FD_ENTRIES {
             return Err(Refusal::NoRoom);
@@ -142,17 +147,31 @@ impl Display {
     pub fn receive(&mut self, bytes: &[u8], fds: &[i32]) -> Outcome<()>
         ensures received { Receives (missing_of self.old) bytes.now fds.now (view self.old) result (view self.new) }
         ensures reason { IfErr result (λ r. TakesNone (missing_of self.old) bytes.now fds.now r) }
+        ensures held { Gets fds.now false self.old.held result self.new.held }
     {
         if bytes.len() > self.missing() {
             return Err(Refusal::TooManyBytes);
         }
+        if let Err(error) = self.held.make_room(bytes, fds) {
+            return Err(Refusal::Protocol(error));
+        }
         match receive(self.alloc, self.channel.endpoint_mut(), bytes, fds) {
             Ok(()) => {
+                self.held.arrive(fds, false);
                 self.incoming.add(bytes);
                 Ok(())
             }
             Err(error) => Err(Refusal::Protocol(error)),
         }
+    }
+
+    /// Hands out descriptors that came, to the front of a place: how many. Nobody will claim them: they are the caller's from now
+    /// on, which closes them. None is left where it is 0 and the place has room.
+    pub fn unclaimed(&mut self, place: &mut [i32]) -> usize
+        ensures out { HandsLoose self.old.held place.old result place.new self.new.held }
+        ensures rest { self.new ≡ record self.old { held = self.new.held } }
+    {
+        self.held.hand_out(place)
     }
 
     /// Takes the reply of a call that has no value, where one is awaited. Errors are those of `take_number`.

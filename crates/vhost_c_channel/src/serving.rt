@@ -8,7 +8,7 @@ ghost use Rattle.vhost_message.specs.declared.error.Error.TheVariants.{OutOfMemo
 use crate::arguments::{fd_of_call, mmap_of, number_of_call, put_name};
 use crate::records::Mmap;
 use std::alloc::Global;
-use vhost_c_common::{Incoming, Outgoing, Refusal, empty, hand_out, receive};
+use vhost_c_common::{Held, Incoming, Outgoing, Refusal, empty, hand_out, receive};
 use vhost_endpoint::talks_law;
 use vhost_frontend_req_handler::{FrontendReqCore, FrontendSideCall};
 use vhost_link::{MemLink, PlainHandle};
@@ -19,13 +19,16 @@ type Outcome<T> = std::result::Result<T, Refusal>;
 /// A link in memory is asked once: what it can't do it will not do.
 const BUDGET: u32 = 0;
 
-/// A session: what it reads and replies, the call that was read last, what is to be sent, and how much came of the next request.
+/// A session: what it reads and replies, the call that was read last, what is to be sent, how much came of the next request, and
+/// the descriptors that came.
 #[derive(Drop)]
 pub struct ChannelServer {
     core: FrontendReqCore<MemLink>,
     call: Option<FrontendSideCall<PlainHandle>>,
     outgoing: Outgoing,
     incoming: Incoming,
+    /// Those of the call that is to be replied to, and those that nobody will claim.
+    held: Held,
     alloc: Global,
 }
 
@@ -36,10 +39,11 @@ impl ChannelServer {
     ghost use Rattle.vhost_protocol.specs.IoError.{seen_io_result};
     ghost use Rattle.vhost_link.specs.declared.plain.PlainHandle.{PlainHandle};
     ghost use Rattle.vhost_frontend_req_handler.specs.declared.call.FrontendSideCall.{FrontendSideCall};
+    ghost use Rattle.vhost_c_common.specs.Held.{Gets, HandsLoose, Abandons};
     ghost use Rattle.vhost_c_common.specs.Moving.{HandsOut};
     ghost use Rattle.vhost_c_channel.specs.Arguments.{mmap_arg, fd_arg, PutsName};
     ghost use Rattle.vhost_c_common.specs.View.{Hands, HandsNone, Receives, TakesNone};
-    ghost use Rattle.vhost_c_channel.specs.Serving.{Request, IsServed, IsNew, Acknowledges, missing_of, end_number, queued, view, Nexts, Tells, PutsInto, Answering, has_call};
+    ghost use Rattle.vhost_c_channel.specs.Serving.{Request, IsServed, IsNew, Acknowledges, Claiming, missing_of, end_number, is_first, queued, view, Nexts, Tells, PutsInto, Answering, has_call};
 
     /// A new session, without acknowledgements.
     ///
@@ -58,6 +62,7 @@ impl ChannelServer {
                 call: None,
                 outgoing,
                 incoming: Incoming::new(),
+                held: Held::new(alloc),
                 alloc,
             }),
             Err(error) => Err(error),
@@ -89,12 +94,17 @@ impl ChannelServer {
     pub fn receive(&mut self, bytes: &[u8], fds: &[i32]) -> Outcome<()>
         ensures received { Receives (missing_of self.old) bytes.now fds.now (view self.old) result (view self.new) }
         ensures reason { IfErr result (λ r. TakesNone (missing_of self.old) bytes.now fds.now r) }
+        ensures held { Gets fds.now (is_first self.old) self.old.held result self.new.held }
     {
         if bytes.len() > self.missing() {
             return Err(Refusal::TooManyBytes);
         }
+        if let Err(error) = self.held.make_room(bytes, fds) {
+            return Err(Refusal::Protocol(error));
+        }
         match receive(self.alloc, self.core.endpoint_mut(), bytes, fds) {
             Ok(()) => {
+                self.held.arrive(fds, self.incoming.count == 0);
                 self.incoming.add(bytes);
                 Ok(())
             }
@@ -124,6 +134,7 @@ impl ChannelServer {
         ensures reason { IfErr result (λ r. HandsNone bytes.new fds.new r) }
         ensures refused { IfErr result (λ _. queued self.new ≡ queued self.old) }
         ensures rest { Hands (view self.old) (view self.new) }
+        ensures held { self.new.held ≡ self.old.held }
     {
         if bytes.is_empty() || fds.len() < MAX_ATTACHED_FD_ENTRIES {
             return Err(Refusal::NoRoom);
@@ -155,6 +166,7 @@ impl ChannelServer {
             }
             Err(error) => {
                 empty(self.core.endpoint_mut());
+                self.held.release();
                 Err(Refusal::Protocol(error))
             }
         }
@@ -171,6 +183,7 @@ impl ChannelServer {
             return Err(Refusal::NothingAsked);
         }
         talks_law();
+        self.held.release();
         match self.core.conclude(answer) {
             Ok(_) => Ok(()),
             Err(error) => {
@@ -179,6 +192,44 @@ impl ChannelServer {
                 }
                 Err(Refusal::Protocol(error))
             }
+        }
+    }
+
+    /// Claims a descriptor of the call that is to be replied to: it came with the first byte of its request, and is the caller's
+    /// from now on.
+    ///
+    /// OtherCall: no call is to be replied to, or none of its descriptors has this number that was not claimed. Then nothing
+    /// changed.
+    pub fn claim(&mut self, fd: i32) -> Outcome<()>
+        ensures { Claiming fd self.old result self.new }
+    {
+        if !self.core.has_call() {
+            return Err(Refusal::OtherCall);
+        }
+        if self.held.claim(fd) {
+            Ok(())
+        } else {
+            Err(Refusal::OtherCall)
+        }
+    }
+
+    /// Hands out descriptors that nobody will claim, to the front of a place: how many. They are the caller's from now on, which
+    /// closes them. None is left where it is 0 and the place has room.
+    pub fn unclaimed(&mut self, place: &mut [i32]) -> usize
+        ensures out { HandsLoose self.old.held place.old result place.new self.new.held }
+        ensures rest { self.new ≡ record self.old { held = self.new.held } }
+    {
+        self.held.hand_out(place)
+    }
+
+    /// The rest of the request that is received will never come: nobody will claim what came with it. A call that is to be replied
+    /// to keeps its own.
+    pub fn abandon(&mut self)
+        ensures abandoned { Abandons (has_call self.old) self.old.held self.new.held }
+        ensures rest { self.new ≡ record self.old { held = self.new.held } }
+    {
+        if !self.core.has_call() {
+            self.held.release();
         }
     }
 

@@ -17,7 +17,7 @@ use Rattle.vhost_c_channel.proofs.asking.Channel.ask_now.Goals as goal
 pub returns-in-Ok-Sent : goal.returns-in-Ok-Sent
 returns-in-Ok-Sent c = λ k is. asks c.talks_law.ensures.talks (input_of c.args.call.now) k is c.args.self.now _ c.in-Ok-Sent.head
     (subst {A = Asked} (λ x. AsksValue event (input_of c.args.call.now) (channel c.args.self.now.channel) (Ok x) (channel c.ask_half.new.self)) c.in-Ok-Sent.field-0-is c.in-Ok-Sent.ensures.asked)
-    refl refl c.new-self.ensures c.requires.empty
+    refl refl c.new-self.ensures c.requires.empty refl
 
 pub returns-in-Err : goal.returns-in-Err
 returns-in-Err c = λ k is. (
@@ -29,5 +29,6 @@ returns-in-Err c = λ k is. (
     memory = forgot-nothing (input_of c.args.call.now) k is c.args.self.now c.in-Err.error (channel c.ask_half.new.self) c.in-Err.ensures.asked;
     asked = refl;
     incoming = refl;
+    held = refl;
   },
 )

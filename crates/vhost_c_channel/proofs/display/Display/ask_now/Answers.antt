@@ -11,7 +11,7 @@ use Rattle.vhost_c_channel.proofs.Displays.{asks, not-asked, mark-kept}
 use Rattle.vhost_c_channel.proofs.display.Display.ask_now.Goals as goal
 
 pub returns-in-Ok : goal.returns-in-Ok
-returns-in-Ok c = λ pixels long. asks c.talks_law.ensures.talks (call_in c.args.call.now pixels) c.args.self.now _ c.in-Ok.awaited (c.in-Ok.ensures pixels long) refl refl c.new-self.ensures c.requires.empty
+returns-in-Ok c = λ pixels long. asks c.talks_law.ensures.talks (call_in c.args.call.now pixels) c.args.self.now _ c.in-Ok.awaited (c.in-Ok.ensures pixels long) refl refl c.new-self.ensures c.requires.empty refl
 
 pub returns-in-Err : goal.returns-in-Err
 returns-in-Err c = λ pixels long. (
@@ -22,5 +22,6 @@ returns-in-Err c = λ pixels long. (
     mark = mark-kept (call_in c.args.call.now pixels) c.args.self.now c.in-Err.error (channel c.ask_half.new.self) (c.in-Err.ensures pixels long);
     asked = refl;
     incoming = refl;
+    held = refl;
   },
 )

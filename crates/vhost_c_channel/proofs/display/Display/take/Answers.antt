@@ -5,7 +5,7 @@ use Rattle.vhost_c_channel.proofs.Displays.{awaits-none, awaits-some, takes-anot
 use Rattle.vhost_c_channel.proofs.display.Display.take.Goals as goal
 
 pub returns-then-awaits_none : goal.returns-then-awaits_none
-returns-then-awaits_none c = not_awaited (awaits-none _ (sym c.awaits_none.ensures ∙ c.if-awaits_none.true)) refl refl (record { asked = refl; mark = refl })
+returns-then-awaits_none c = not_awaited (awaits-none _ (sym c.awaits_none.ensures ∙ c.if-awaits_none.true)) refl refl (record { asked = refl; mark = refl; held = refl })
 
 pub returns-in-Ok : goal.returns-in-Ok
 returns-in-Ok c = takes (awaits-some _ (sym c.awaits_none.ensures ∙ c.if-awaits_none.false)) (takes-another (λ e. tt) TheEmpty (λ bs. record {}) _ _ (Ok c.in-Ok.field-0) (c.in-Ok.ensures TheEmpty refl (λ bs. refl)))

@@ -34,18 +34,18 @@ returns-then-size-SIZE-2 g c reply sized all =
     other_size c.in-Some-asked.awaited (none-missing _ _ c.missing.ensures.missing c.if-missing-gt0.false) (c.in-Some.is ∙ ap {A = Option Awaited} Some c.in-Some-asked.is)
     (same-form _ _ (sym c.size.ensures ∙ c.if-size-SIZE.false ∙ c.SIZE.ensures ∙ sym sized))
     (λ is. c.if-size-SIZE-2.true (c.size-2.ensures ∙ is ∙ sized ∙ sym c.SIZE-2.ensures)) (ap {A = State Ends PlainHandle} stream gone) (ap {A = State Ends PlainHandle} (λ e. c.args.self.now.outgoing.link.pending ++ e.link.sent) gone) (ap {A = State Ends PlainHandle} bare gone)
-    (record { asked = refl; mark = refl })
+    (record { asked = refl; mark = refl; held = refl })
 
 pub returns-in-Ok : goal.returns-in-Ok
 returns-in-Ok g c reply sized all =
     reads c.in-Some-asked.awaited (Ok c.in-Ok.record) (none-missing _ _ c.missing.ensures.missing c.if-missing-gt0.false) (c.in-Some.is ∙ ap {A = Option Awaited} Some c.in-Some-asked.is)
     (same-form _ _ (sym c.size.ensures ∙ c.if-size-SIZE.false ∙ c.SIZE.ensures ∙ sym sized)) (sym c.size-2.ensures ∙ c.if-size-SIZE-2.false ∙ c.SIZE-2.ensures ∙ sym sized)
     (received reply g.T.ByteValued.read c.talks_law.ensures.talks (gpu_fields_of c.in-Some-asked.awaited.request) c.args.self.now _ (Ok c.in-Ok.record) (c.in-Ok.ensures.taken reply sized all) refl)
-    (record { asked = refl; mark = ap {A = link.Channel Ends PlainHandle} (λ x. x.failed) c.take_half.ensures.same })
+    (record { asked = refl; mark = ap {A = link.Channel Ends PlainHandle} (λ x. x.failed) c.take_half.ensures.same; held = refl })
 
 pub returns-in-Err : goal.returns-in-Err
 returns-in-Err g c reply sized all = failed reply g.T.ByteValued.read _ _ _ c.in-Err.error c.protocol_error.ensures
     (reads c.in-Some-asked.awaited (Err c.in-Err.error) (none-missing _ _ c.missing.ensures.missing c.if-missing-gt0.false) (c.in-Some.is ∙ ap {A = Option Awaited} Some c.in-Some-asked.is)
     (same-form _ _ (sym c.size.ensures ∙ c.if-size-SIZE.false ∙ c.SIZE.ensures ∙ sym sized)) (sym c.size-2.ensures ∙ c.if-size-SIZE-2.false ∙ c.SIZE-2.ensures ∙ sym sized)
     (received reply g.T.ByteValued.read c.talks_law.ensures.talks (gpu_fields_of c.in-Some-asked.awaited.request) c.args.self.now _ (Err c.in-Err.error) (c.in-Err.ensures.taken reply sized all) refl)
-    (record { asked = refl; mark = ap {A = link.Channel Ends PlainHandle} (λ x. x.failed) c.take_half.ensures.same }))
+    (record { asked = refl; mark = ap {A = link.Channel Ends PlainHandle} (λ x. x.failed) c.take_half.ensures.same; held = refl }))

@@ -7,7 +7,7 @@ use Rattle.vhost_c_channel.proofs.Requests.{begins}
 use Rattle.vhost_c_channel.proofs.serving.ChannelServer.next.Goals as goal
 
 pub returns-in-Ok : goal.returns-in-Ok
-returns-in-Ok c = λ unmarked. begins c.talks_law.ensures.talks c.args.self.now _ _ c.in-Ok.call (c.in-Ok.ensures.begun unmarked) refl c.new-self.ensures c.number_of_call-number.ensures refl
+returns-in-Ok c = λ unmarked. begins c.talks_law.ensures.talks c.args.self.now _ _ c.in-Ok.call (c.in-Ok.ensures.begun unmarked) refl c.new-self.ensures c.number_of_call-number.ensures refl refl
 
 pub returns-in-Err : goal.returns-in-Err
 returns-in-Err c = λ unmarked. record {
@@ -18,4 +18,5 @@ returns-in-Err c = λ unmarked. record {
   outgoing = refl;
   idle = c.in-Err.ensures.none;
   nothing_came = c.new-self.ensures;
+  held = c.release.ensures;
 }
