@@ -6,3 +6,11 @@ pub mod Reporting
 pub mod Sizing
 pub mod Requests
 pub mod Told
+pub mod Pieces
+pub mod Missing
+pub mod Messages
+pub mod Sending
+pub mod Meeting
+pub mod Returning
+pub mod Joining
+pub mod Running

@@ -5,3 +5,6 @@ pub mod Clients
 pub mod Display
 pub mod DisplayRecords
 pub mod Serving
+pub mod Wire
+pub mod Joined
+pub mod Crossing

@@ -8,9 +8,11 @@ mod clients;
 mod display;
 mod display_clients;
 mod display_records;
+mod joined;
 mod records;
 mod serving;
 mod serving_clients;
+mod wire;
 
 pub use asking::{Channel, Feature};
 pub use display::Display;
