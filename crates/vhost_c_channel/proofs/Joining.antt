@@ -1,16 +1,14 @@
 -- A call of joined sessions, from its request to its answer; and a flag.
-use Rattle.std.proofs.Common.{◌≡◌, ◌<◌, ◌^◌, ℕ, Bool, true, false, List, [], ◌++◌, Some, None, Result, Ok, Err, refl, sym, ap, subst, ◌∙◌}
-use Rattle.std.specs.Prelude.{⊤, ◌&&◌, is_err, is_some}
+use Rattle.std.proofs.Common.{◌≡◌, ℕ, Bool, true, false, ◌++◌, Some, Result, Ok, Err, refl, sym, ap, subst, ◌∙◌}
+use Rattle.std.specs.Prelude.{◌&&◌, is_some}
 use Rattle.vhost_message.specs.BackendReq.{backend_request_number}
 use Rattle.vhost_protocol.specs.Error.{PartialMessage}
 use Rattle.vhost_protocol.specs.IoError.{IoError, Of, seen_io}
 use Rattle.vhost_protocol.specs.Joined.{is_silent, read_as}
 use Rattle.vhost_protocol.specs.JoinedReverse as input
 use Rattle.vhost_protocol.specs.JoinedReverse.{ReverseExchanges, ReverseInput, ReverseInStep, ReverseShown, ReverseJoinedStep, reverse_unsent}
-use Rattle.vhost_protocol.specs.Reverse.{Backend, ReverseAsked, ReverseFollows, ReverseCall, ReverseOutcome, Server, Sends, bad_body, is_reverse_last, result_number, reverse_answer, reverse_ask, reverse_row}
+use Rattle.vhost_protocol.specs.Reverse.{Backend, ReverseAsked, ReverseFollows, ReverseCall, ReverseOutcome, Server, Sends, bad_body, is_reverse_last, reverse_answer, reverse_ask, reverse_row}
 use Rattle.vhost_protocol.specs.ReverseLaws.{IsAnswered}
-use Rattle.vhost_protocol.specs.Served.{Silent}
-use Rattle.vhost_protocol.specs.Stream.{Cell}
 use Rattle.vhost_protocol.specs.Written.{written_cells}
 use Rattle.vhost_link.specs.Ends.{Ends}
 use Rattle.vhost_link.specs.declared.plain.PlainHandle.{PlainHandle}
@@ -23,7 +21,7 @@ use Rattle.vhost_c_common.specs.declared.incoming.Incoming.{Incoming}
 use Rattle.vhost_c_common.specs.declared.refusal.Refusal.{Refusal}
 use Rattle.vhost_c_channel.specs.Asking as asking
 use Rattle.vhost_c_channel.specs.Asking.{Agrees, flag_in}
-use Rattle.vhost_c_channel.specs.Crossing.{Crosses, Crossing, Declines, Holds, IsMet, IsNumber, IsReturned, Meets, Returning, is_call, replies, reply_to}
+use Rattle.vhost_c_channel.specs.Crossing.{Crosses, Crossing, Declines, IsMet, IsNumber, IsReturned, Meets, Returning, is_call, replies, reply_to}
 use Rattle.vhost_c_channel.specs.Joined.{AreInStep, IsAnswer, IsMade, IsSilent, Joined, Joins, answers}
 use Rattle.vhost_c_channel.specs.Serving as serving
 use Rattle.vhost_c_channel.specs.Serving.{Acknowledges, Request}
@@ -34,7 +32,7 @@ use Rattle.vhost_c_channel.specs.declared.joined.Done.{Done}
 use Rattle.vhost_c_channel.specs.declared.serving.ChannelServer.{ChannelServer}
 use Rattle.vhost_c_channel.specs.declared.wire.Halt.{Halt}
 use Rattle.vhost_c_channel.specs.declared.wire.Halt.TheVariants as halt
-use Rattle.vhost_c_channel.proofs.Messages.{IsSent, again, answered, bad-err, invalid-so, met-number, sent, silent-bad}
+use Rattle.vhost_c_channel.proofs.Messages.{IsSent, again, answered, bad-err, invalid-so, sent, silent-bad}
 
 -- ---- a call
 
@@ -66,7 +64,7 @@ module _ (c : ReverseCall PlainHandle) (a : Result ℕ IoError) (s0 s1 : Channel
   }
 
   -- it was asked
-  module _ (made : IsMade (input.Asks c)) (small : result_number a < 2 ^ 64) (x : Crosses c s0 t0 s1 t1) (failed : Bool) (t2 : ChannelServer) (met : IsMet (read_as x.w) a (serving.remembers t1) failed t2) where
+  module _ (made : IsMade (input.Asks c)) (x : Crosses c s0 t0 s1 t1) (failed : Bool) (t2 : ChannelServer) (met : IsMet (read_as x.w) a (serving.remembers t1) failed t2) where
     abbrev before : Server
     before = serving.remembers t0
 
@@ -83,7 +81,7 @@ module _ (c : ReverseCall PlainHandle) (a : Result ℕ IoError) (s0 s1 : Channel
     plain = is-sent.plain
 
     pub number : IsNumber o.served
-    number = met-number a before (read_as x.w) small o follows
+    number = met.number
 
     pub known : IsAnswered x.awaited o
     known = answered a (asking.remembers s0) before c x.w x.awaited steps.in_step.agree x.is o follows

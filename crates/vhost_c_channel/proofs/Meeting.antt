@@ -1,7 +1,7 @@
 -- The request that came is read, and its call is answered; or its row refuses it.
-use Rattle.std.proofs.Common.{◌≡◌, ◌<◌, ◌⊎◌, inl, inr, ℕ, Bool, true, false, List, [], ◌++◌, append_assoc, Option, Some, None, Result, Ok, Err, refl, sym, ap, subst, ◌∙◌, arith}
-use Rattle.std.specs.Prelude.{⊤, ◌&&◌, is_err, is_some, if◌then◌else◌}
-use Rattle.vhost_message.specs.BackendReq.{backend_request_of, backend_request_number}
+use Rattle.std.proofs.Common.{◌≡◌, ◌<◌, ◌⊎◌, inl, inr, ℕ, Bool, true, false, List, [], ◌++◌, append_assoc, None, Result, Ok, Err, refl, sym, ap, subst, ◌∙◌, arith}
+use Rattle.std.specs.Prelude.{⊤, ◌&&◌, is_err, if◌then◌else◌}
+use Rattle.vhost_message.specs.BackendReq.{backend_request_of}
 use Rattle.vhost_message.specs.declared.backend_req.BackendReq.{BackendReq}
 use Rattle.vhost_message.specs.declared.error.Error as declared
 use Rattle.vhost_message.specs.declared.error.Error.TheVariants as code
@@ -32,12 +32,12 @@ use Rattle.vhost_c_common.specs.View.{End}
 use Rattle.vhost_c_common.specs.declared.incoming.Incoming.{Incoming}
 use Rattle.vhost_c_common.specs.declared.refusal.Refusal.{Refusal}
 use Rattle.vhost_c_common.specs.declared.refusal.Refusal.TheVariants.{NotReplied, NotYet, Protocol}
-use Rattle.vhost_c_channel.specs.Crossing.{Holds, IsDue, IsMet, is_want, replies, reply_to}
+use Rattle.vhost_c_channel.specs.Crossing.{IsDue, IsMet, is_want, replies, reply_to}
 use Rattle.vhost_c_channel.specs.Serving as serving
 use Rattle.vhost_c_channel.specs.Serving.{Answering, Begins, Concludes, Denies, IsServed, Nexts, Replies, Request, concluded, is_handed, stopped, told}
 use Rattle.vhost_c_channel.specs.declared.serving.ChannelServer.{ChannelServer}
 use Rattle.vhost_c_channel.proofs.Change.{unhanded}
-use Rattle.vhost_c_channel.proofs.Messages.{refused}
+use Rattle.vhost_c_channel.proofs.Messages.{number-from, refused}
 use Rattle.vhost_c_channel.proofs.Sending.{want-true}
 
 -- ---- it is read
@@ -103,6 +103,7 @@ module _ (m : Request) (before : Server) (t t1 : ChannelServer) (open_ : IsOpen 
     outcome = with_number before m a;
     follows = subst {A = ReverseStep PlainHandle} (λ x. ReverseFollows (replies a) tt x (with_number before m a) tt) (sym row) (a, refl, refl);
     is_failed = is ∙ sym (same-err a);
+    number = number-from before m a r.fits;
     memory = r.memory ∙ open_.memory;
     holds = record {
       queue = queue ∙ ap (λ xs. xs ++ number_cells (serving.remembers t) open_.served.request a) open_.queue ∙ cells-are;
@@ -191,6 +192,7 @@ module _ (law : TalksLaw) (m : Request) (a : Result ℕ IoError) (t t1 : Channel
           outcome = met.0;
           follows = by-row.0;
           is_failed = sym (ap (λ x. is_err x) by-row.1);
+          number = by-row.2;
           memory = d.memory ∙ met.4;
           holds = record {
             queue = (λ i. (d.outgoing i).link.pending ++ (d.end i).link.sent) ∙ ap (λ cells. t.outgoing.link.pending ++ cells) out ∙ sym (append_assoc t.outgoing.link.pending begun.link.sent h.written) ∙ ap (λ cells. cells ++ h.written) due.queue ∙ met.3;

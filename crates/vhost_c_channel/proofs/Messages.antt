@@ -24,7 +24,7 @@ use Rattle.vhost_protocol.specs.JoinedReverse.{Asks}
 use Rattle.vhost_protocol.specs.Reverse.{ReverseCall, HandleConfigChange, SharedObjectAdd, SharedObjectRemove, SharedObjectLookup, ShmemMap, ShmemUnmap, Backend, Server, ReverseAsked, Refuses, Sends, sends_unless, reverse_ask, reverse_answer, reverse_take, ReverseOutcome, ReverseStep, Refused, Calls, ReverseFollows, reverse_row, reverse_row_of, bad_body, object_row, mapping_row, number_back, result_number, with_number, with_one_handle, backend_allows_handles}
 use Rattle.vhost_protocol.specs.ReverseLaws.{IsAnswered, AllAnswered, StaysAnswered}
 use Rattle.vhost_protocol.specs.Served.{Served, Silent, Replied, reply, cells_of}
-use Rattle.vhost_protocol.specs.Written.{Written, Payload, Empty, U64, ObjectName, Mapping, head_of, payload_text, reply_to, written_cells, written_text}
+use Rattle.vhost_protocol.specs.Written.{Written, Payload, Empty, U64, ObjectName, Mapping, head_of, payload_text, written_cells, written_text}
 use Rattle.vhost_protocol.proofs.ReverseLaws.{reverse-answers, reverse-takes}
 use Rattle.vhost_protocol.proofs.TextLaws.{IsSendable}
 use Rattle.vhost_link.proofs.Cells.{length-carrying}
@@ -162,7 +162,7 @@ number-if : (b : Bool) (n : ℕ) → n < 2 ^ 64 → IsNumber (cond b (Replied (U
 number-if true n small = small
 number-if false n small = tt
 
-number-from : (s : Server) (m : Request) (a : Result ℕ IoError) → result_number a < 2 ^ 64 → IsNumber (number_back s m a)
+pub number-from : (s : Server) (m : Request) (a : Result ℕ IoError) → result_number a < 2 ^ 64 → IsNumber (number_back s m a)
 number-from s m a small = number-if (s.reply_ack && m.need_reply) (result_number a) small
 
 -- a number goes back to whom wants it
@@ -172,17 +172,6 @@ spoken s m a A on wants none =
     absurd (cc (sym (ap (λ b. cond {A = Served PlainHandle} b (Replied (U64 (result_number a)) []) Silent) both) ∙ none))
 
 module _ (a : Result ℕ IoError) (s : Server) (m : Request) where
-  is-number : result_number a < 2 ^ 64 → (x : ReverseStep PlainHandle) (o : ReverseOutcome PlainHandle) → Shape s m x → ReverseFollows (replies a) tt x o tt → IsNumber o.served
-  is-number small _ o silent f = subst (λ (y : ReverseOutcome PlainHandle). IsNumber y.served) (sym f.0) tt
-  is-number small _ o unserved f = subst (λ (y : ReverseOutcome PlainHandle). IsNumber y.served) (sym f.0) (number-from s m (Err (Of InvalidMessage)) (lit< tt))
-  is-number small _ o (calls c) f =
-      let same : o ≡ with_number s m a = f.2 ∙ ap (λ b. with_number s m b) f.1 in
-      subst (λ (y : ReverseOutcome PlainHandle). IsNumber y.served) (sym same) (number-from s m a small)
-
-  -- nothing is sent, or a number
-  pub met-number : result_number a < 2 ^ 64 → (o : ReverseOutcome PlainHandle) → ReverseFollows (replies a) tt (reverse_row s m) o tt → IsNumber o.served
-  met-number small o f = is-number small (reverse_row s m) o (row-shape s m) f
-
   is-bad : (x : ReverseStep PlainHandle) (o : ReverseOutcome PlainHandle) → Shape s m x → ReverseFollows (replies a) tt x o tt → s.reply_ack ≡ true → m.need_reply ≡ true → o.served ≡ Silent → x ≡ bad_body
   is-bad _ o silent f on wants none = refl
   is-bad _ o unserved f on wants none = spoken s m (Err (Of InvalidMessage)) _ on wants (ap (λ (y : ReverseOutcome PlainHandle). y.served) (sym f.0) ∙ none)
@@ -202,12 +191,12 @@ module _ (a : Result ℕ IoError) (s : Server) (m : Request) where
 
   -- ---- where nobody is called
 
-  refused-so : (x : ReverseStep PlainHandle) (o : ReverseOutcome PlainHandle) → Shape s m x → ReverseFollows (fitting uncalled) tt x o tt → ReverseFollows (replies a) tt x o tt × (o.answer ≡ Err InvalidMessage)
-  refused-so _ o silent f = (f, ap (λ (y : ReverseOutcome PlainHandle). y.answer) f.0)
-  refused-so _ o unserved f = (f, ap (λ (y : ReverseOutcome PlainHandle). y.answer) f.0)
+  refused-so : (x : ReverseStep PlainHandle) (o : ReverseOutcome PlainHandle) → Shape s m x → ReverseFollows (fitting uncalled) tt x o tt → ReverseFollows (replies a) tt x o tt × (o.answer ≡ Err InvalidMessage) × IsNumber o.served
+  refused-so _ o silent f = (f, ap (λ (y : ReverseOutcome PlainHandle). y.answer) f.0, subst (λ (y : ReverseOutcome PlainHandle). IsNumber y.served) (sym f.0) tt)
+  refused-so _ o unserved f = (f, ap (λ (y : ReverseOutcome PlainHandle). y.answer) f.0, subst (λ (y : ReverseOutcome PlainHandle). IsNumber y.served) (sym f.0) (number-from s m (Err (Of InvalidMessage)) (lit< tt)))
   refused-so _ o (calls c) f = absurd f.1.0
 
-  pub refused : (o : ReverseOutcome PlainHandle) → ReverseFollows (fitting uncalled) tt (reverse_row s m) o tt → ReverseFollows (replies a) tt (reverse_row s m) o tt × (o.answer ≡ Err InvalidMessage)
+  pub refused : (o : ReverseOutcome PlainHandle) → ReverseFollows (fitting uncalled) tt (reverse_row s m) o tt → ReverseFollows (replies a) tt (reverse_row s m) o tt × (o.answer ≡ Err InvalidMessage) × IsNumber o.served
   refused o f = refused-so (reverse_row s m) o (row-shape s m) f
 
   -- ---- the device's answer

@@ -1,11 +1,11 @@
 -- What a frontend's session reads, and what it replies.
-use Rattle.std.proofs.Common.{◌≡◌, ℕ, true, false, List, ◌++◌, append_assoc, Option, Some, Result, Ok, Err, refl, sym, ap, subst, ◌∙◌}
+use Rattle.std.proofs.Common.{◌≡◌, ◌<◌, ◌^◌, ℕ, true, false, List, ◌++◌, append_assoc, Option, Some, Result, Ok, Err, refl, sym, ap, subst, ◌∙◌}
 use Rattle.std.specs.Prelude.{⊤, ok_or}
 use Rattle.vhost_message.specs.BackendReq.{backend_request_of}
 use Rattle.vhost_message.specs.declared.backend_req.BackendReq.{BackendReq}
 use Rattle.vhost_message.specs.declared.error.Error as declared
 use Rattle.vhost_protocol.specs.IoError.{IoError}
-use Rattle.vhost_protocol.specs.Reverse.{Server, Calls, backend_allows_handles, reverse_row_of, with_number}
+use Rattle.vhost_protocol.specs.Reverse.{Server, Calls, backend_allows_handles, result_number, reverse_row_of, with_number}
 use Rattle.vhost_protocol.specs.Split.{split}
 use Rattle.vhost_link.specs.Mem.{event}
 use Rattle.vhost_link.specs.declared.plain.PlainHandle.{PlainHandle}
@@ -95,12 +95,13 @@ keeps request a old new result (halves.stopped stops same) = same
 -- what is answered to a reply where a call is to be replied to
 pub answers : TalksLaw → (a : Result ℕ IoError) (old new : ChannelServer) (result : Result ℕ declared.Error) (outcome : Result ⊤ Refusal)
     → ((request : code.Request BackendReq) → old.core.pending ≡ Some request → IsReady (endpoint_of old.core) → halves.Concludes event request a (endpoint_of old.core) (server_in old.core) result (endpoint_of new.core) (server_in new.core))
-    → new.outgoing ≡ old.outgoing → new.incoming ≡ old.incoming → outcome ≡ told result → has_call new ≡ false → has_call old ≡ true → Released old.held new.held → Answering a old outcome new
-answers law a old new result outcome goes outgoing incoming is idle some released = record {
+    → new.outgoing ≡ old.outgoing → new.incoming ≡ old.incoming → outcome ≡ told result → has_call new ≡ false → has_call old ≡ true → Released old.held new.held → result_number a < 2 ^ 64 → Answering a old outcome new
+answers law a old new result outcome goes outgoing incoming is idle some released fits = record {
   one = λ m c x. let d = goes x.request x.is x.ready in record {
     result = result;
     concludes = concludes law x.request a old new result d outgoing;
     is_told = is;
+    fits = fits;
     memory = keeps x.request a old new result d;
     idle = idle;
     incoming = incoming;

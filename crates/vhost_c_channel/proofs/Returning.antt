@@ -1,5 +1,5 @@
 -- The reply comes back, where one is awaited, and is taken.
-use Rattle.std.proofs.Common.{◌≡◌, ◌<◌, ◌≤◌, ◌⊎◌, inl, inr, ℕ, ◌^◌, Bool, true, false, List, [], ◌++◌, length, Option, Some, None, Result, Ok, Err, refl, sym, ap, subst, ◌∙◌, arith, lit<}
+use Rattle.std.proofs.Common.{◌≡◌, ◌<◌, ◌≤◌, ◌⊎◌, inl, inr, ℕ, Bool, true, false, List, [], ◌++◌, length, Option, Some, None, Result, Ok, Err, refl, sym, ap, subst, ◌∙◌, arith, lit<}
 use Rattle.std.specs.Prelude.{⊤, ◌&&◌, ◌==◌, is_some, if◌then◌else◌}
 use Rattle.vhost_message.specs.BackendReq.{backend_request_number}
 use Rattle.vhost_message.specs.Bits.{has_bit}
@@ -11,16 +11,16 @@ use Rattle.vhost_message.specs.declared.error.Error.TheVariants as code
 use Rattle.vhost_message.specs.declared.io_error.IoError as io
 use Rattle.vhost_message.specs.declared.io_error.IoError.TheVariants as place
 use Rattle.vhost_message.specs.declared.limits.TheConstants.{MAX_MSG_TEXT}
-use Rattle.vhost_protocol.specs.Error.{Error, FrontendInternalError, PartialMessage, seen}
+use Rattle.vhost_protocol.specs.Error.{Error, FrontendInternalError, PartialMessage}
 use Rattle.vhost_protocol.specs.IoError.{IoError, Of, seen_io, seen_io_result}
 use Rattle.vhost_protocol.specs.Joined.{is_silent}
 use Rattle.vhost_protocol.specs.JoinedReverse as input
 use Rattle.vhost_protocol.specs.JoinedReverse.{ReverseInput}
-use Rattle.vhost_protocol.specs.Reverse.{Backend, of_number, reverse_answer, reverse_take}
+use Rattle.vhost_protocol.specs.Reverse.{of_number, reverse_answer, reverse_take}
 use Rattle.vhost_protocol.specs.Served as protocol
 use Rattle.vhost_protocol.specs.Served.{Silent, Replied}
 use Rattle.vhost_protocol.specs.Stream.{Cell, bytes}
-use Rattle.vhost_protocol.specs.Written.{U64, Written, head_of, header_flags, payload_text, reply_to as to_reply, written_text}
+use Rattle.vhost_protocol.specs.Written.{U64, Written, head_of, header_flags, reply_to as to_reply, written_text}
 use Rattle.vhost_link.specs.declared.plain.PlainHandle.{PlainHandle}
 use Rattle.vhost_endpoint.specs.Memory.{stream}
 use Rattle.vhost_c_common.proofs.Wanting.{is-uncut, wants}
@@ -30,7 +30,7 @@ use Rattle.vhost_c_common.specs.Memory.{WantsMemory}
 use Rattle.vhost_c_common.specs.View.{End}
 use Rattle.vhost_c_common.specs.declared.incoming.Incoming.{Incoming}
 use Rattle.vhost_c_common.specs.declared.refusal.Refusal.{Refusal}
-use Rattle.vhost_c_common.specs.declared.refusal.Refusal.TheVariants.{NotYet, NothingAsked, Protocol}
+use Rattle.vhost_c_common.specs.declared.refusal.Refusal.TheVariants.{Protocol}
 use Rattle.vhost_c_channel.specs.Asking as asking
 use Rattle.vhost_c_channel.specs.Asking.{Head, Hears, Keeps, Takes, endpoint_of, error_in, lacks, missing_for}
 use Rattle.vhost_c_channel.specs.Crossing.{Holds, IsAsked, IsNumber, IsReturned, Returning, is_want, reply_to}

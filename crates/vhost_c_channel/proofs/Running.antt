@@ -1,7 +1,7 @@
 -- Joined calls one after another are a joined run of the protocol.
-use Rattle.std.proofs.Common.{◌≡◌, ℕ, Bool, true, false, List, [], ◌∷◌, ◌++◌, ◌+◌, suc, append_assoc, length, map, None, Result, Ok, Err, refl, sym, ap, subst, ◌∙◌, arith}
-use Rattle.std.specs.Prelude.{⊤}
-use Rattle.std.proofs.lemmas.List.{append-nil}
+use Rattle.std.proofs.Common.{◌≡◌, ℕ, Bool, true, false, List, [], ◌∷◌, ◌++◌, ◌+◌, suc, append_assoc, length, map, Result, Err, refl, sym, ap, subst, ◌∙◌, arith}
+use Rattle.vhost_message.specs.declared.error.Error as declared
+use Rattle.vhost_message.specs.declared.error.Error.TheVariants.{OutOfMemory}
 use Rattle.vhost_message.specs.declared.io_error.IoError as io
 use Rattle.vhost_protocol.specs.IoError.{IoError, seen_io_result}
 use Rattle.vhost_protocol.specs.Joined.{read_as}
@@ -12,15 +12,17 @@ use Rattle.vhost_protocol.specs.Reverse.{Backend, Refused, Refuses, ReverseAsked
 use Rattle.vhost_link.specs.declared.plain.PlainHandle.{PlainHandle}
 use Rattle.vhost_backend_req.specs.Halves.{input_of}
 use Rattle.vhost_backend_req.specs.declared.call.ReverseCall as code
-use Rattle.vhost_frontend_req_handler.specs.Core as core
+use Rattle.vhost_c_common.specs.Memory.{WantsMemory}
 use Rattle.vhost_c_common.specs.View.{End}
+use Rattle.vhost_c_common.specs.declared.refusal.Refusal.TheVariants.{Protocol}
 use Rattle.vhost_c_channel.specs.Asking as asking
-use Rattle.vhost_c_channel.specs.Joined.{AllJoin, AreAllowed, AreInStep, Entry, InLockstep, IsAllowed, Joined, Joins, JoinsAll, Runs, Step, UpTo, answers, any_answer, entries}
+use Rattle.vhost_c_channel.specs.Joined.{AllJoin, AreMade, AreInStep, Entry, InLockstep, Joined, Joins, JoinsBoth, Runs, UpTo, answers, any_answer, entries}
 use Rattle.vhost_c_channel.specs.Serving as serving
 use Rattle.vhost_c_channel.specs.declared.asking.Channel.{Channel}
 use Rattle.vhost_c_channel.specs.declared.joined.Done.{Done}
 use Rattle.vhost_c_channel.specs.declared.serving.ChannelServer.{ChannelServer}
 use Rattle.vhost_c_channel.specs.declared.wire.Halt.{Halt}
+use Rattle.vhost_c_channel.specs.declared.wire.Halt.TheVariants as halt
 
 abbrev Entries : Type 0
 Entries = List Entry
@@ -102,9 +104,9 @@ pub record Going (all rest : Entries) (s0 : Channel) (t0 : ChannelServer) (s : C
   pub is : all ≡ done ++ rest
   pub joined : AllJoin done false s0 t0 false s t
   pub in_step : AreInStep s t
-  pub allowed : AreAllowed rest
+  pub allowed : AreMade rest
 
-pub begins : (all : Entries) (s : Channel) (t : ChannelServer) → AreInStep s t → AreAllowed all → Going all all s t s t
+pub begins : (all : Entries) (s : Channel) (t : ChannelServer) → AreInStep s t → AreMade all → Going all all s t s t
 begins all s t in-step allowed = record { done = []; is = refl; joined = (refl, refl, refl); in_step = in-step; allowed = allowed }
 
 joins-more : (before : Entries) (stopped : Bool) (e : Entry) (s0 : Channel) (t0 : ChannelServer) (s : Channel) (t : ChannelServer) (s' : Channel) (t' : ChannelServer) (done : Done) → AllJoin before stopped s0 t0 false s t → Joined e s t done s' t' → AllJoin (before ++ e ∷ []) stopped s0 t0 done.last s' t'
@@ -120,7 +122,7 @@ goes-on all rest rest' e s0 t0 s t s' t' done next last g joined = record {
   is = g.is ∙ ap (λ xs. g.done ++ xs) next ∙ sym (append_assoc g.done (e ∷ []) rest');
   joined = subst (λ b. AllJoin (g.done ++ e ∷ []) false s0 t0 b s' t') last (joins-more g.done false e s0 t0 s t s' t' done g.joined joined);
   in_step = joined.in_step;
-  allowed = (subst (λ xs. AreAllowed xs) next g.allowed).1;
+  allowed = (subst (λ xs. AreMade xs) next g.allowed).1;
 }
 
 -- all were done
@@ -180,3 +182,10 @@ new-in-step s t asker server = record {
   sound = (ap {A = End} (λ e. e.broken) asker.empty.end, ap {A = End} (λ e. e.broken) server.empty.end);
   uncut = (ap {A = End} (λ e. e.link.script) asker.empty.end, ap {A = End} (λ e. e.link.script) server.empty.end);
 }
+
+pub no-memory : (e : declared.Error) → e ≡ OutOfMemory → WantsMemory (Protocol e)
+no-memory e is = subst {A = declared.Error} (λ x. WantsMemory (Protocol x)) (sym is) tt
+
+pub both-halt : (es left : Entries) (s : Channel) (t : ChannelServer) (s' : Channel) (t' : ChannelServer) (h : Halt) → asking.IsNew s → serving.IsNew t → UpTo es s t h left s' t' → JoinsBoth es (Err h) left
+both-halt es left s t s' t' (halt.WantsMemory why) asker server upto = upto.halts
+both-halt es left s t s' t' halt.Silent asker server upto = (s, t, asker, server, s', t', upto)

@@ -1,22 +1,20 @@
 -- A call is asked, and its request comes over.
-use Rattle.std.proofs.Common.{◌≡◌, ◌<◌, ◌⊎◌, inr, ℕ, Bool, true, false, cond, List, [], ◌++◌, length, Option, Some, None, Result, Ok, Err, refl, sym, ap, subst, ◌∙◌, arith}
+use Rattle.std.proofs.Common.{◌≡◌, ℕ, Bool, true, false, cond, List, [], ◌++◌, length, Option, Some, None, Err, refl, sym, ap, subst, ◌∙◌}
 use Rattle.std.specs.Prelude.{⊤, is_some, if◌then◌else◌}
 use Rattle.std.proofs.lemmas.List.{append-nil}
 use Rattle.vhost_message.specs.BackendReq.{backend_request_of, backend_request_number}
 use Rattle.vhost_message.specs.declared.backend_req.BackendReq.{BackendReq}
-use Rattle.vhost_message.specs.declared.cause.IoCause.TheVariants as cause
 use Rattle.vhost_message.specs.declared.error.Error as declared
 use Rattle.vhost_message.specs.declared.error.Error.TheVariants as code
 use Rattle.vhost_message.specs.declared.io_error.IoError as io
 use Rattle.vhost_message.specs.declared.io_error.IoError.TheVariants as place
-use Rattle.vhost_protocol.specs.IoError.{IoError, Because, Of, In, seen_io}
-use Rattle.vhost_protocol.specs.Joined.{read_as}
+use Rattle.vhost_protocol.specs.IoError.{Because, seen_io}
 use Rattle.vhost_protocol.specs.JoinedReverse as input
 use Rattle.vhost_protocol.specs.JoinedReverse.{ReverseInStep}
-use Rattle.vhost_protocol.specs.Reverse.{Backend, ReverseAsked, ReverseCall, HandleConfigChange, SharedObjectAdd, SharedObjectRemove, SharedObjectLookup, ShmemMap, ShmemUnmap, Refuses, Sends, Server, backend_allows_handles, reverse_ask, sends_unless}
+use Rattle.vhost_protocol.specs.Reverse.{Backend, ReverseAsked, ReverseCall, HandleConfigChange, SharedObjectAdd, SharedObjectRemove, SharedObjectLookup, ShmemMap, ShmemUnmap, Refuses, Sends, backend_allows_handles, reverse_ask, sends_unless}
 use Rattle.vhost_protocol.specs.Split.{announced, split}
 use Rattle.vhost_protocol.specs.Stream.{Cell, bytes}
-use Rattle.vhost_protocol.specs.Written.{Payload, Written, head_of, payload_text, written_cells, written_text}
+use Rattle.vhost_protocol.specs.Written.{Payload, head_of, payload_text, written_cells, written_text}
 use Rattle.vhost_protocol.proofs.TextLaws.{sendable-valid, written-split}
 use Rattle.vhost_link.specs.declared.plain.PlainHandle.{PlainHandle}
 use Rattle.vhost_link.specs.Mem.{event}
@@ -33,10 +31,10 @@ use Rattle.vhost_c_common.specs.declared.refusal.Refusal.{Refusal}
 use Rattle.vhost_c_common.specs.declared.refusal.Refusal.TheVariants.{Protocol}
 use Rattle.vhost_c_channel.specs.Asking as asking
 use Rattle.vhost_c_channel.specs.Asking.{Asks, Head, Keeps, Refused, busy, no_memory, unasked, Unasked, refuses, fails, Stays, endpoint_of, error_in}
-use Rattle.vhost_c_channel.specs.Crossing.{Crosses, Crossing, Declines, IsAsked, IsDue, is_want}
+use Rattle.vhost_c_channel.specs.Crossing.{Crosses, Crossing, Declines, is_want}
 use Rattle.vhost_c_channel.specs.Joined.{AreInStep, IsMade}
 use Rattle.vhost_c_channel.specs.Serving as serving
-use Rattle.vhost_c_channel.specs.Wire.{HasCome, IsOnWay, IsOver, IsTold, Moves, Stops}
+use Rattle.vhost_c_channel.specs.Wire.{HasCome, IsOnWay, IsOver, IsTold, Stops}
 use Rattle.vhost_c_channel.specs.declared.asking.Channel.{Channel}
 use Rattle.vhost_c_channel.specs.declared.serving.ChannelServer.{ChannelServer}
 use Rattle.vhost_c_channel.specs.declared.wire.Halt.{Halt}

@@ -107,11 +107,18 @@ pub record Holds (cells : List (Cell PlainHandle)) (t : ChannelServer) : Type 0 
 abbrev pub reply_to : BackendReq → protocol.Served PlainHandle → List (Cell PlainHandle)
 reply_to r served = cells_of backend_request_number (reply r served)
 
+-- nothing is sent, or a number of 64 bits
+abbrev pub IsNumber : protocol.Served PlainHandle → Type 0
+IsNumber Silent = ⊤
+IsNumber (Replied (U64 n) []) = n < 2 ^ 64
+IsNumber _ = ⊥
+
 -- It met its row, by a frontend's side that answers so; and whether that is an error.
 pub record IsMet (m : Request) (a : Result ℕ IoError) (before : Server) (failed : Bool) (t : ChannelServer) : Type 0 where
   pub outcome : ReverseOutcome PlainHandle
   pub follows : ReverseFollows (replies a) tt (reverse_row before m) outcome tt
   pub is_failed : failed ≡ is_err outcome.answer
+  pub number : IsNumber outcome.served
   pub memory : serving.remembers t ≡ before
   pub holds : Holds (reply_to m.request outcome.served) t
 
@@ -122,12 +129,6 @@ Meets m a before (Err (halt.WantsMemory why)) t = WantsMemory why
 Meets m a before (Err halt.Silent) t = ⊥
 
 -- ---- its reply comes back
-
--- nothing is sent, or a number of 64 bits
-abbrev pub IsNumber : protocol.Served PlainHandle → Type 0
-IsNumber Silent = ⊤
-IsNumber (Replied (U64 n) []) = n < 2 ^ 64
-IsNumber _ = ⊥
 
 -- The reply was taken as this answer, and nothing is on the way or open.
 pub record IsReturned (served : protocol.Served PlainHandle) (result : Result ℕ IoError) (failed : Bool) (s : Channel) (t : ChannelServer) (done : Done) (s' : Channel) (t' : ChannelServer) : Type 0 where

@@ -1,5 +1,5 @@
 -- Both sessions of the backend channel, joined: what the one hands out the other receives, in any pieces, and the frontend's side answers.
-use Rattle.std.specs.Prelude.{◌≡◌, ◌<◌, ◌^◌, ℕ, Bool, true, false, List, [], ◌∷◌, ◌++◌, length, map, None, Result, Ok, Err, ⊤}
+use Rattle.std.specs.Prelude.{◌≡◌, ℕ, Bool, true, false, List, [], ◌∷◌, ◌++◌, length, map, None, Result, Ok, Err, ⊤}
 use Rattle.vhost_message.specs.declared.backend_req.BackendReq.{BackendReq}
 use Rattle.vhost_message.specs.declared.error.Error.TheVariants.{InactiveOperation}
 use Rattle.vhost_message.specs.declared.io_error.IoError as io
@@ -10,7 +10,7 @@ use Rattle.vhost_protocol.specs.IoError.{IoError, Of, seen_io, seen_io_result}
 use Rattle.vhost_protocol.specs.JoinedReverse as input
 use Rattle.vhost_protocol.specs.JoinedReverse.{ReverseInput, ReverseInStep, ReverseShown, ReverseJoinedStep, ReverseJoinedRun}
 use Rattle.vhost_protocol.specs.Reverse as reverse
-use Rattle.vhost_protocol.specs.Reverse.{ReverseCall, Sends, result_number, reverse_ask}
+use Rattle.vhost_protocol.specs.Reverse.{ReverseCall, Sends, reverse_ask}
 use Rattle.vhost_protocol.specs.Row.{is_valid_name}
 use Rattle.vhost_protocol.specs.Written.{Written}
 use Rattle.vhost_link.specs.declared.plain.PlainHandle.{PlainHandle}
@@ -62,11 +62,6 @@ is_valid_call (reverse.SharedObjectLookup name h) = is_valid_name name
 is_valid_call (reverse.ShmemMap mapping h) = is_valid_mmap mapping
 is_valid_call (reverse.ShmemUnmap mapping) = is_valid_mmap mapping
 
--- so is each entry, and the number that stands for its answer has 64 bits
-pub record IsAllowed (entry : Entry) : Type 0 where
-  pub made : IsMade entry.0
-  pub sized : result_number entry.1 < 2 ^ 64
-
 -- ---- both sessions
 
 -- Both are in step as the protocol says: they agree, neither failed, and nothing is on the way. No call is open, and nothing broke them.
@@ -78,7 +73,7 @@ pub record AreInStep (s : Channel) (t : ChannelServer) : Type 0 where
   pub sound : ((endpoint_of s).broken ≡ None) × ((core.endpoint_of t.core).broken ≡ None)
   pub uncut : ((endpoint_of s).link.script ≡ []) × ((core.endpoint_of t.core).link.script ≡ [])
 
--- What the device was answered for a call: 0, or the error of the protocol, which of an error without one is that the call was not agreed on.
+-- What the device is told of an answer: nothing more where that is 0; else its error of the protocol, or where it has none, that the call was not agreed on.
 abbrev pub IsAnswer : ReverseInput PlainHandle → Result ⊤ Refusal → Result ℕ IoError → Type 0
 IsAnswer i (Ok done) result = result ≡ Ok 0
 IsAnswer i (Err (Protocol e)) result = (x : io.IoError) × (result ≡ Err (seen_io x)) × (e ≡ error_in x (InactiveOperation (lacks i)))
@@ -121,12 +116,12 @@ abbrev pub entries : List (code.ReverseCall PlainHandle × Result ℕ io.IoError
 entries [] = []
 entries (c ∷ cs) = (input_of c.0, seen_io_result c.1) ∷ entries cs
 
--- each is allowed
-abbrev pub AreAllowed : List Entry → Type 0
-AreAllowed [] = ⊤
-AreAllowed (e ∷ es) = IsAllowed e × AreAllowed es
+-- so is each
+abbrev pub AreMade : List Entry → Type 0
+AreMade [] = ⊤
+AreMade (e ∷ es) = IsMade e.0 × AreMade es
 
--- Calls one after another, each of which is done. None comes after the run's last step.
+-- Calls one after another, each of which is done. None comes after the run's last step: whether it stopped before these, and whether it did behind them.
 abbrev pub AllJoin : List Entry → (stopped : Bool) → Channel → ChannelServer → (stops : Bool) → Channel → ChannelServer → Type 0
 AllJoin [] stopped s t stops s' t' = (stops ≡ stopped) × (s' ≡ s) × (t' ≡ t)
 AllJoin (e ∷ es) true s t stops s' t' = ⊥
@@ -169,3 +164,9 @@ pub record JoinsNew (es left : List Entry) (s' : Channel) (t' : ChannelServer) :
   pub fresh : asking.IsNew asker × serving.IsNew server
   pub stops : Bool
   pub runs : Runs es asker server stops left s' t'
+
+-- what becomes of calls of two new sessions: they are done; or memory was refused, or the reply of one never comes
+abbrev pub JoinsBoth : List Entry → Result (Channel × ChannelServer) Halt → List Entry → Type 0
+JoinsBoth es (Ok both) left = JoinsNew es left both.0 both.1
+JoinsBoth es (Err (halt.WantsMemory why)) left = WantsMemory why
+JoinsBoth es (Err halt.Silent) left = (s : Channel) × (t : ChannelServer) × asking.IsNew s × serving.IsNew t × (s' : Channel) × (t' : ChannelServer) × UpTo es s t halt.Silent left s' t'

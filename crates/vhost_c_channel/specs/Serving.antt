@@ -1,5 +1,5 @@
 -- What the calls of a frontend's session do: requests that it reads, the calls that they become, and what is replied.
-use Rattle.std.specs.Prelude.{◌≡◌, ◌<◌, ◌==◌, ◌||◌, nat_lt, ℕ, ℤ, Bool, true, false, List, ◌++◌, Contains, Option, Some, None, Result, Ok, Err, ⊤, is_some, ok_or, if◌then◌else◌}
+use Rattle.std.specs.Prelude.{◌≡◌, ◌<◌, ◌^◌, ◌==◌, ◌||◌, nat_lt, ℕ, ℤ, Bool, true, false, List, ◌++◌, Contains, Option, Some, None, Result, Ok, Err, ⊤, is_some, ok_or, if◌then◌else◌}
 use Rattle.vhost_message.specs.BackendReq.{backend_request_of}
 use Rattle.vhost_message.specs.declared.backend_req.BackendReq.{BackendReq}
 use Rattle.vhost_message.specs.declared.error.Error as declared
@@ -7,7 +7,7 @@ use Rattle.vhost_message.specs.declared.error.Error.TheVariants.{ReqHandlerError
 use Rattle.vhost_message.specs.declared.limits.TheConstants.{MSG_HEADER_SIZE}
 use Rattle.vhost_protocol.specs.Error.{seen_result}
 use Rattle.vhost_protocol.specs.IoError.{IoError}
-use Rattle.vhost_protocol.specs.Reverse.{Server, Calls, backend_allows_handles, handed_on, reverse_row_of, with_number}
+use Rattle.vhost_protocol.specs.Reverse.{Server, Calls, backend_allows_handles, handed_on, result_number, reverse_row_of, with_number}
 use Rattle.vhost_protocol.specs.Split.{Message, split}
 use Rattle.vhost_protocol.specs.Stream.{Cell}
 use Rattle.vhost_link.specs.Ends.{Ends}
@@ -193,11 +193,12 @@ abbrev pub told : Result ℕ declared.Error → Result ⊤ Refusal
 told (Ok n) = Ok tt
 told (Err e) = if is_handed e then Ok tt else Err (Protocol e)
 
--- The call of a request was replied to, and none is to be replied to any more.
+-- The call of a request was replied to, by a number of 64 bits, and none is to be replied to any more.
 pub record Replies (request : code.Request BackendReq) (a : Result ℕ IoError) (old : ChannelServer) (outcome : Result ⊤ Refusal) (new : ChannelServer) : Type 0 where
   pub result : Result ℕ declared.Error
   pub concludes : Concludes request a old new result
   pub is_told : outcome ≡ told result
+  pub fits : result_number a < 2 ^ 64
   pub memory : remembers new ≡ remembers old
   pub idle : has_call new ≡ false
   pub incoming : new.incoming ≡ old.incoming

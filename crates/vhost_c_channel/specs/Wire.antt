@@ -1,5 +1,5 @@
 -- A message goes from one session to another in pieces, with its descriptors.
-use Rattle.std.specs.Prelude.{◌≡◌, ◌<◌, ◌≤◌, ◌+◌, ◌⊎◌, ℕ, List, [], ◌∷◌, ◌++◌, length, map, take, Some, Result, Ok, Err, ⊤}
+use Rattle.std.specs.Prelude.{◌≡◌, ◌<◌, ◌≤◌, ◌+◌, ℕ, List, [], ◌∷◌, ◌++◌, length, map, take, Some, Result, Ok, Err, ⊤}
 use Rattle.vhost_message.specs.declared.limits.TheConstants.{MAX_MSG_TEXT, MSG_HEADER_SIZE}
 use Rattle.vhost_protocol.specs.Stream.{Cell, bytes}
 use Rattle.vhost_link.specs.declared.plain.PlainHandle.{PlainHandle}

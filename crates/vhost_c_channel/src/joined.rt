@@ -11,7 +11,7 @@ ghost use Rattle.vhost_link.specs.declared.plain.PlainHandle.{PlainHandle};
 ghost use Rattle.vhost_backend_req.specs.Halves.{input_of};
 ghost use Rattle.vhost_c_channel.specs.Asking.{flag_in};
 ghost use Rattle.vhost_c_channel.specs.Crossing.{Crossing, IsAsked, IsDue, Holds, IsNumber, Meets, Returning, is_call, is_want, reply_to};
-ghost use Rattle.vhost_c_channel.specs.Joined.{AreAllowed, AreInStep, IsAllowed, Joins, JoinsAll, JoinsNew, entries};
+ghost use Rattle.vhost_c_channel.specs.Joined.{AreMade, AreInStep, IsMade, Joins, JoinsAll, JoinsBoth, entries};
 ghost use Rattle.vhost_c_channel.specs.Serving.{Request, remembers};
 
 use crate::asking::{Channel, Feature};
@@ -63,7 +63,7 @@ pub fn joined_channel_call(
     answer: HandlerResult<u64>,
     cuts: &[usize],
 ) -> Result<Done, Halt>
-    ensures { AreInStep asker.old server.old → IsAllowed (input_of call.now, seen_io_result answer) → Joins (input_of call.now, seen_io_result answer) asker.old server.old result asker.new server.new }
+    ensures { AreInStep asker.old server.old → IsMade (input_of call.now) → Joins (input_of call.now, seen_io_result answer) asker.old server.old result asker.new server.new }
 {
     match flag_of(call) {
         Some((feature, on)) => Ok(set_flag(asker, server, feature, on)),
@@ -80,7 +80,7 @@ pub fn joined_channel_calls(
     calls: &mut VecDeque<Entry>,
     cuts: &[usize],
 ) -> Result<bool, Halt>
-    ensures { AreInStep asker.old server.old → AreAllowed (entries calls.old.items) → JoinsAll (entries calls.old.items) asker.old server.old result (entries calls.new.items) asker.new server.new }
+    ensures { AreInStep asker.old server.old → AreMade (entries calls.old.items) → JoinsAll (entries calls.old.items) asker.old server.old result (entries calls.new.items) asker.new server.new }
 {
     let count = calls.len();
     'calls: for _ in 0..count {
@@ -107,7 +107,7 @@ pub fn joined_channel_run(
     calls: &mut VecDeque<Entry>,
     cuts: &[usize],
 ) -> Result<(Channel, ChannelServer), Halt>
-    ensures { AreAllowed (entries calls.old.items) → IfOk result (λ s. JoinsNew (entries calls.old.items) (entries calls.new.items) s.0 s.1) }
+    ensures { AreMade (entries calls.old.items) → JoinsBoth (entries calls.old.items) result (entries calls.new.items) }
 {
     let mut asker = match Channel::new(alloc) {
         Ok(session) => session,
@@ -160,7 +160,7 @@ fn joined_ask(
     cuts: &[usize],
 ) -> Result<Done, Halt>
     requires { is_call (input_of call.now) ≡ true }
-    ensures { AreInStep asker.old server.old → IsAllowed (input_of call.now, seen_io_result answer) → Joins (input_of call.now, seen_io_result answer) asker.old server.old result asker.new server.new }
+    ensures { AreInStep asker.old server.old → IsMade (input_of call.now) → Joins (input_of call.now, seen_io_result answer) asker.old server.old result asker.new server.new }
 {
     match send(asker, server, call, cuts) {
         Ok(Ok(())) => match serve(server, answer) {
@@ -184,7 +184,7 @@ fn send(
     call: &ReverseCall<PlainHandle>,
     cuts: &[usize],
 ) -> Result<Outcome<()>, Halt>
-    ensures { (c : reverse.ReverseCall PlainHandle) (a : Result ℕ IoError) → input_of call.now ≡ Asks c → AreInStep asker.old server.old → IsAllowed (Asks c, a) → Crossing c asker.old server.old result asker.new server.new }
+    ensures { (c : reverse.ReverseCall PlainHandle) → input_of call.now ≡ Asks c → AreInStep asker.old server.old → IsMade (Asks c) → Crossing c asker.old server.old result asker.new server.new }
 {
     match asker.ask(call) {
         Ok(()) => match carry_request(asker, server, cuts) {

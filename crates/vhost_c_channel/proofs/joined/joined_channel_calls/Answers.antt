@@ -1,11 +1,8 @@
 -- One more call was done, or none is left, or one was not done.
 use Rattle.std.proofs.Common.{◌≡◌, ◌≤◌, ◌+◌, ℕ, length, subst, ◌∙◌, arith}
-use Rattle.vhost_message.specs.declared.io_error.IoError as io
 use Rattle.vhost_protocol.specs.IoError.{seen_io_result}
-use Rattle.vhost_link.specs.declared.plain.PlainHandle.{PlainHandle}
 use Rattle.vhost_backend_req.specs.Halves.{input_of}
-use Rattle.vhost_backend_req.specs.declared.call.ReverseCall as code
-use Rattle.vhost_c_channel.specs.Joined.{AreAllowed, entries}
+use Rattle.vhost_c_channel.specs.Joined.{AreMade, entries}
 use Rattle.vhost_c_channel.proofs.Running.{ends, goes-on, halts, next-entry, none-left, one-less, stops}
 use Rattle.vhost_c_channel.proofs.joined.joined_channel_calls.Goals as goal
 
@@ -14,14 +11,14 @@ returns-then-done c in-step allowed =
     let going = c.calls.invariant.going in-step allowed in
     let next = next-entry c.calls.calls.items c.pop_front.new.self.items (c.in-Some.call, c.in-Some.answer) c.in-Some.ensures.items in
     stops (entries c.args.calls.now.items) (entries c.calls.calls.items) (entries c.pop_front.new.self.items) (input_of c.in-Some.call, seen_io_result c.in-Some.answer) c.args.asker.now c.args.server.now c.calls.asker c.calls.server c.joined_channel_call.new.asker c.joined_channel_call.new.server
-    c.in-Ok.done in-step next c.if-done.true going (c.in-Ok.ensures going.in_step (subst (λ xs. AreAllowed xs) next going.allowed).0)
+    c.in-Ok.done in-step next c.if-done.true going (c.in-Ok.ensures going.in_step (subst (λ xs. AreMade xs) next going.allowed).0)
 
 pub returns-in-Err : goal.returns-in-Err
 returns-in-Err c in-step allowed =
     let going = c.calls.invariant.going in-step allowed in
     let next = next-entry c.calls.calls.items c.pop_front.new.self.items (c.in-Some.call, c.in-Some.answer) c.in-Some.ensures.items in
     halts (entries c.args.calls.now.items) (entries c.calls.calls.items) (entries c.pop_front.new.self.items) (input_of c.in-Some.call, seen_io_result c.in-Some.answer) c.args.asker.now c.args.server.now c.calls.asker c.calls.server c.joined_channel_call.new.asker c.joined_channel_call.new.server
-    c.in-Err.halt in-step next going (c.in-Err.ensures going.in_step (subst (λ xs. AreAllowed xs) next going.allowed).0)
+    c.in-Err.halt in-step next going (c.in-Err.ensures going.in_step (subst (λ xs. AreMade xs) next going.allowed).0)
 
 pub calls-preserved : goal.calls-preserved
 calls-preserved c = record {
@@ -29,7 +26,7 @@ calls-preserved c = record {
       let going = c.calls.invariant.going in-step allowed in
       let next = next-entry c.calls.calls.items c.pop_front.new.self.items (c.in-Some.call, c.in-Some.answer) c.in-Some.ensures.items in
       goes-on (entries c.args.calls.now.items) (entries c.calls.calls.items) (entries c.pop_front.new.self.items) (input_of c.in-Some.call, seen_io_result c.in-Some.answer) c.args.asker.now c.args.server.now c.calls.asker c.calls.server c.joined_channel_call.new.asker c.joined_channel_call.new.server
-      c.in-Ok.done next c.if-done.false going (c.in-Ok.ensures going.in_step (subst (λ xs. AreAllowed xs) next going.allowed).0);
+      c.in-Ok.done next c.if-done.false going (c.in-Ok.ensures going.in_step (subst (λ xs. AreMade xs) next going.allowed).0);
   left = one-less c.calls.calls.items c.pop_front.new.self.items (c.in-Some.call, c.in-Some.answer) c.calls.counter (length c.args.calls.now.items) c.in-Some.ensures.items c.calls.invariant.left;
 }
 

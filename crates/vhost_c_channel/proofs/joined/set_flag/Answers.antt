@@ -1,8 +1,7 @@
 -- A flag is set, of one session or of both.
 use Rattle.std.proofs.Common.{sym, subst}
-use Rattle.vhost_c_channel.specs.Asking.{Agrees, flag_in}
+use Rattle.vhost_c_channel.specs.Asking.{flag_in}
 use Rattle.vhost_c_channel.specs.Joined.{Joined}
-use Rattle.vhost_c_channel.specs.declared.asking.Feature.{Feature}
 use Rattle.vhost_c_channel.specs.declared.joined.Done.{Done}
 use Rattle.vhost_c_channel.proofs.Joining.{acknowledged, flagged}
 use Rattle.vhost_c_channel.proofs.joined.set_flag.Goals as goal

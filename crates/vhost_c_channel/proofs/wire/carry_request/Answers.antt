@@ -1,5 +1,5 @@
 -- A piece more came over, or nothing is missing.
-use Rattle.std.proofs.Common.{◌≡◌, ◌∙◌, ℕ, List, Option, false, refl, sym, ap, arith}
+use Rattle.std.proofs.Common.{◌≡◌, ◌∙◌, ℕ, false, refl, sym, ap, arith}
 use Rattle.std.specs.Prelude.{is_some, if◌then◌else◌}
 use Rattle.vhost_message.specs.BackendReq.{backend_request_of}
 use Rattle.vhost_c_common.specs.Incoming.{missing_by}
