@@ -1,7 +1,9 @@
 pub mod Calls
 pub mod Change
 pub mod Displays
+pub mod JoiningDisplay
 pub mod Noticing
+pub mod Replying
 pub mod Reporting
 pub mod Sizing
 pub mod Requests

@@ -4,6 +4,7 @@ pub mod Asking
 pub mod Clients
 pub mod Display
 pub mod DisplayRecords
+pub mod JoinedDisplay
 pub mod Serving
 pub mod Wire
 pub mod Joined

@@ -9,6 +9,7 @@ mod display;
 mod display_clients;
 mod display_records;
 mod joined;
+mod joined_display;
 mod records;
 mod serving;
 mod serving_clients;
