@@ -26,7 +26,7 @@ use Rattle.vhost_frontend_core.specs.Frontend.{endpoint_of, session_of, awaits}
 use Rattle.vhost_frontend_core.specs.Kept.{IsKeptFor}
 use Rattle.vhost_frontend_core.specs.Values.{call_of, answer_of}
 use Rattle.vhost_frontend_core.specs.Halves.{makes_room}
-use Rattle.vhost_frontend_core.specs.ValueHalves.{TakesResult}
+use Rattle.vhost_frontend_core.specs.ValueHalves.{IsProper, TakesResult}
 use Rattle.vhost_frontend_core.specs.declared.asked.Sent.{Sent}
 use Rattle.vhost_frontend_core.specs.declared.internal.FrontendInternal.{FrontendInternal}
 use Rattle.vhost_frontend_core.specs.declared.values.answer.FrontendAnswer.{FrontendAnswer}
@@ -83,11 +83,12 @@ abbrev pub inactive_at : Option Session → ℕ
 inactive_at None = 0
 inactive_at (Some s) = s.inactive
 
--- A call that was sent is kept until its answer is taken, with the header of its request and with what is awaited. Of its answer nothing came yet, and nothing that came before waits.
+-- A call that was sent is kept until its answer is taken, with the header of its request and with what is awaited. What it is made of has the sizes of its types. Of its answer nothing came yet, and nothing that came before waits.
 pub record Keeps (call : FrontendCall PlainHandle) (w : Written FrontendReq PlainHandle) (s : Session) : Type 0 where
   pub kept : CallAsked
   pub is : s.asked ≡ Some kept
   pub same : call_of kept.call ≡ call
+  pub proper : IsProper call
   pub header : fields_of kept.sent.request ≡ head_of request_number w
   pub awaited : kept.sent.awaited ≡ awaits s.frontend
   pub nothing_came : s.incoming.count ≡ 0

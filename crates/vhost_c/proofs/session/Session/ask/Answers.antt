@@ -20,6 +20,7 @@ noted call s t n u b v (Ok done) (sent w is queue keeps same sound) = sent w is 
   kept = keeps.kept;
   is = keeps.is;
   same = keeps.same;
+  proper = keeps.proper;
   header = keeps.header;
   awaited = keeps.awaited;
   nothing_came = keeps.nothing_came;

@@ -3,7 +3,7 @@ use Rattle.std.specs.Prelude.{IfSome}
 use Rattle.vhost_frontend_core.specs.Halves.{AsksHalfWithRoom}
 use Rattle.vhost_frontend_core.specs.Kept.{IsKeptFor}
 use Rattle.vhost_frontend_core.specs.declared.asked.Sent.{Sent}
-use Rattle.vhost_frontend_core.specs.ValueHalves.{AsksCall, awaited_after}
+use Rattle.vhost_frontend_core.specs.ValueHalves.{AsksCall, IsProper, awaited_after}
 use Rattle.vhost_link.specs.Ends.{Ends}
 use Rattle.vhost_link.specs.Mem.{event}
 use Rattle.vhost_link.specs.declared.plain.PlainHandle.{PlainHandle}
@@ -63,7 +63,8 @@ pub returns-in-Ok-Some-clause-asked : goal.returns-in-Ok-Some-clause-asked
 returns-in-Ok-Some-clause-asked c =
     let call = call_of c.args.call in let old = c.args.self.now.frontend in let new = c.ask.new.frontend in
     let w = asked-so c.stream_law.ensures.stream call old new c.in-Ok-Some.sent (half-of call old new c.in-Ok-Some.field-0 c.in-Ok-Some.sent c.in-Ok-Some.field-0-is c.in-Ok-Some.ensures.asked) in
-    sent w.w w.is (behind c.args.self.now.outgoing.link.pending (endpoint_of old).link.sent (cells w.w) (endpoint_of new).link.sent w.text) (record { kept = _; is = refl; same = refl; header = w.header; awaited = w.awaited; nothing_came = c.new-self.ensures; nothing_waits = came-before c.talks_law.ensures.talks call (endpoint_of old) (endpoint_of new) (session_of old) (session_of new) (awaits old) (awaits new) c.in-Ok-Some.sent (half-of call old new c.in-Ok-Some.field-0 c.in-Ok-Some.sent c.in-Ok-Some.field-0-is c.in-Ok-Some.ensures.asked) ∙ empty-before (endpoint_of old) c.requires.none_ahead c.requires.empty }) refl w.sound
+    let proper : IsProper call = subst {A = Option Sent} (λ o. IfSome o (λ x. IsProper call)) c.in-Ok-Some.field-0-is c.in-Ok-Some.ensures.proper in
+    sent w.w w.is (behind c.args.self.now.outgoing.link.pending (endpoint_of old).link.sent (cells w.w) (endpoint_of new).link.sent w.text) (record { kept = _; is = refl; same = refl; proper = proper; header = w.header; awaited = w.awaited; nothing_came = c.new-self.ensures; nothing_waits = came-before c.talks_law.ensures.talks call (endpoint_of old) (endpoint_of new) (session_of old) (session_of new) (awaits old) (awaits new) c.in-Ok-Some.sent (half-of call old new c.in-Ok-Some.field-0 c.in-Ok-Some.sent c.in-Ok-Some.field-0-is c.in-Ok-Some.ensures.asked) ∙ empty-before (endpoint_of old) c.requires.none_ahead c.requires.empty }) refl w.sound
 
 pub returns-in-Ok-None-clause-asked : goal.returns-in-Ok-None-clause-asked
 returns-in-Ok-None-clause-asked c =
