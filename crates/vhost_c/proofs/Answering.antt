@@ -4,14 +4,18 @@ use Rattle.std.specs.Prelude.{⊤}
 use Rattle.vhost_message.specs.declared.error.Error as declared
 use Rattle.vhost_message.specs.declared.error.Error.TheVariants.{OutOfMemory, InvalidParam}
 use Rattle.vhost_message.specs.declared.records.shmem.VhostUserShMemConfig.{VhostUserShMemConfig}
-use Rattle.vhost_protocol.specs.DeviceCall.{Call, Answer}
+use Rattle.vhost_protocol.specs.Answered.{calls}
+use Rattle.vhost_protocol.specs.DeviceCall as device
+use Rattle.vhost_protocol.specs.DeviceCall.{Call}
+use Rattle.vhost_protocol.specs.Error.{Error}
 use Rattle.vhost_protocol.specs.Handler.{Follows}
+use Rattle.vhost_protocol.specs.Row.{channel}
 use Rattle.vhost_protocol.specs.Session.{Session}
 use Rattle.vhost_protocol.specs.Settled.{settled}
-use Rattle.vhost_protocol.specs.Step.{Outcome, Step, Calls}
+use Rattle.vhost_protocol.specs.Step.{Outcome, Step, Calls, OpensBackend, OpensGpu, ◌>>=◌}
 use Rattle.vhost_link.specs.declared.plain.PlainHandle.{PlainHandle}
 use Rattle.vhost_serving_core.specs.Beginning.{step_of, with_one, with_wanted}
-use Rattle.vhost_serving_core.specs.Concluding.{FollowsFrom, answer_in}
+use Rattle.vhost_serving_core.specs.Concluding.{Beside, FollowsFrom, answer_in, done_in}
 use Rattle.vhost_serving_core.specs.Fits.{Makes}
 use Rattle.vhost_serving_core.specs.declared.answer.DeviceAnswer.{DeviceAnswer}
 use Rattle.vhost_serving_core.specs.declared.call.DeviceCall.{DeviceCall}
@@ -24,15 +28,16 @@ use Rattle.vhost_c_common.specs.declared.refusal.Refusal.TheVariants.{Protocol, 
 use Rattle.vhost_c_backend.specs.Replies.{form_in, fits, Gives, Rejects, IsBad}
 use Rattle.vhost_c_backend.specs.Served as served
 use Rattle.vhost_c_backend.specs.Serving as serving
-use Rattle.vhost_c_backend.specs.Serving.{Request, Channel, Display, row, IsCall, IsServed, Concludes, told, stopped, Rests, Replies, Replying, done, failed, rejected, Answering}
+use Rattle.vhost_c_backend.specs.Serving.{Request, Channel, Display, row, IsCall, Concludes, told, stopped, Rests, Replying, done, failed, rejected, Answering}
 use Rattle.vhost_c_backend.specs.declared.replies.Form.{Form}
 use Rattle.vhost_c_backend.specs.declared.replies.Form.TheVariants as form
 use Rattle.vhost_c_backend.specs.declared.replies.Reply.{Reply}
 use Rattle.vhost_c_backend.specs.declared.replies.Reply.TheVariants as reply
 use Rattle.vhost_c_backend.specs.declared.served.Served.{Served}
-use Rattle.vhost_c.specs.Joined.{form_of, Says, replies, opens, is_want, halted, IsOpen, IsMet, Serves}
+use Rattle.vhost_c.specs.Device.{form_of, Says, replies, opens, is_want, halted, IsOpen, IsMet, Serves}
 use Rattle.vhost_c.specs.declared.wire.Halt.{Halt}
 use Rattle.vhost_c.specs.declared.wire.Halt.TheVariants as halt
+use Rattle.vhost_c.proofs.Channels.{a_channel, a_display}
 use Rattle.vhost_c.proofs.Lasting.{stop-want}
 
 abbrev Row : Type 0
@@ -45,44 +50,68 @@ abbrev asked_form : Row → Form
 asked_form (Calls c next) = form_of c
 asked_form _ = form.Done
 
-one : (hs : List PlainHandle) (next : PlainHandle → Row) (A : Type 0) → hs ≡ [] → Makes (with_one hs next) → A
-one [] next A none makes = absurd makes
-one (h ∷ hs) next A none makes = absurd (cc none)
+-- a step with the one handle of a message, where there is exactly one
+one : (P : Row → Type 0) (hs : List PlainHandle) (next : PlainHandle → Row) → Makes (with_one hs next) → ((h : PlainHandle) → P (next h)) → P (with_one hs next)
+one P [] next makes p = absurd makes
+one P (h ∷ []) next makes p = p h
+one P (h ∷ k ∷ hs) next makes p = absurd makes
 
-wanted : (given : Bool) (hs : List PlainHandle) (next : Option PlainHandle → Row) (P : Row → Type 0) → hs ≡ [] → Makes (with_wanted given hs next) → P (next None) → P (with_wanted given hs next)
-wanted true hs next P none makes p = one hs (λ h. next (Some h)) _ none makes
-wanted false hs next P none makes p = p
+wanted : (P : Row → Type 0) (given : Bool) (hs : List PlainHandle) (next : Option PlainHandle → Row) → Makes (with_wanted given hs next) → ((h : Option PlainHandle) → P (next h)) → P (with_wanted given hs next)
+wanted P true hs next makes p = one P hs (λ h. next (Some h)) makes (λ h. p (Some h))
+wanted P false hs next makes p = p None
 
--- without descriptors a call of the device is made, in the form of the code's
-record Asks (x : Row) (f : Form) : Type 0 where
-  call : Call PlainHandle Channel Display
-  next : Answer call → Outcome PlainHandle
-  is : x ≡ Calls call next
-  same : form_of call ≡ f
-
-asks : (s : Session) (m : Request) (c : DeviceCall) → m.handles ≡ [] → Makes (step_of {B = Channel} {G = Display} s m c) → Asks (step_of s m c) (form_in c)
-asks s m (call.SetLogBase l) none makes = one m.handles _ _ none makes
-asks s m (call.SetVringKick i given) none makes = wanted given m.handles _ (λ x. Asks x form.Done) none makes (record { call = _; next = _; is = refl; same = refl })
-asks s m (call.SetVringCall i given) none makes = wanted given m.handles _ (λ x. Asks x form.Done) none makes (record { call = _; next = _; is = refl; same = refl })
-asks s m (call.SetVringErr i given) none makes = wanted given m.handles _ (λ x. Asks x form.Done) none makes (record { call = _; next = _; is = refl; same = refl })
-asks s m call.SetBackendReqFd none makes = one m.handles _ _ none makes
-asks s m call.SetGpuSocket none makes = one m.handles _ _ none makes
-asks s m (call.SetInflightFd area) none makes = one m.handles _ _ none makes
-asks s m (call.AddMemRegion r listens) none makes = one m.handles _ _ none makes
-asks s m (call.SetDeviceStateFd direction phase) none makes = one m.handles _ _ none makes
-asks s m _ none makes = record { call = _; next = _; is = refl; same = refl }
+-- the form of a call of the device is that of the code's
+step-form : (s : Session) (m : Request) (c : DeviceCall) → Makes (step_of {B = Channel} {G = Display} s m c) → asked_form (step_of s m c) ≡ form_in c
+step-form s m (call.SetLogBase l) makes = one (λ x. asked_form x ≡ form.Done) m.handles _ makes (λ h. refl)
+step-form s m (call.SetVringKick i given) makes = wanted (λ x. asked_form x ≡ form.Done) given m.handles _ makes (λ h. refl)
+step-form s m (call.SetVringCall i given) makes = wanted (λ x. asked_form x ≡ form.Done) given m.handles _ makes (λ h. refl)
+step-form s m (call.SetVringErr i given) makes = wanted (λ x. asked_form x ≡ form.Done) given m.handles _ makes (λ h. refl)
+step-form s m call.SetBackendReqFd makes = one (λ x. asked_form x ≡ form.Done) m.handles _ makes (λ h. refl)
+step-form s m call.SetGpuSocket makes = one (λ x. asked_form x ≡ form.Done) m.handles _ makes (λ h. refl)
+step-form s m (call.SetInflightFd area) makes = one (λ x. asked_form x ≡ form.Done) m.handles _ makes (λ h. refl)
+step-form s m (call.AddMemRegion r listens) makes = one (λ x. asked_form x ≡ form.Region listens) m.handles _ makes (λ h. refl)
+step-form s m (call.SetDeviceStateFd direction phase) makes = one (λ x. asked_form x ≡ form.StateFd) m.handles _ makes (λ h. refl)
+step-form s m _ makes = refl
 
 -- ---- what follows from an answer
 
-module _ (s : Session) (m : Request) (c : DeviceCall) (none : m.handles ≡ []) (makes : Makes (row s m)) (is : serving.IsCall s m c) where
-  asked : Asks (row s m) (form_in c)
-  asked = subst {A = Row} (λ x. Asks x (form_in c)) (sym is) (asks s m c none (subst {A = Row} (λ x. Makes x) is makes))
+module _ (s : Session) (m : Request) (r : Reply) (b : Beside) (a : DeviceAnswer PlainHandle) (o : Outcome PlainHandle) where
+  -- what follows by the code follows in the table
+  abbrev IsFollowed : Row → Type 0
+  IsFollowed x = FollowsFrom s b a x o → Follows (replies r) (opens r) (opens r) s tt x o tt
 
-  pub followed : (r : Reply) (a : DeviceAnswer PlainHandle) (rs : _) (place : VhostUserShMemConfig) (o : Outcome PlainHandle) → Says (form_in c) r a → FollowsFrom s (beside rs place) a (row s m) o → Follows (replies r) opens opens s tt (row s m) o tt
-  followed r a rs place o says follows =
-      let f : FollowsFrom {B = Channel} {G = Display} s (beside rs place) a (Calls asked.call asked.next) o = subst {A = Row} (λ x. FollowsFrom s (beside rs place) a x o) asked.is follows in
-      subst {A = Row} (λ x. Follows (replies r) opens opens s tt x o tt) (sym asked.is)
-      (answer_in (beside rs place) asked.call a, (a, subst {A = Form} (λ g. Says g r a) (sym asked.same) says, beside rs place, refl), f)
+  called : (c : Call PlainHandle Channel Display) → Says (form_of c) r a → IsFollowed (calls s m c)
+  called c says f = (answer_in b c a, (a, says, b, refl), f)
+
+  -- a channel is opened where the answer agrees
+  opened-backend : (h : PlainHandle) → Says form.Done r a → IsFollowed (OpensBackend h (λ opened. channel s m opened >>= (λ k. calls s m (device.SetBackendReqFd k))))
+  opened-backend h says f = by (done_in a) refl
+    where
+      by : (x : Result ⊤ Error) → done_in a ≡ x → Follows (replies r) (opens r) (opens r) s tt (OpensBackend h (λ opened. channel s m opened >>= (λ k. calls s m (device.SetBackendReqFd k)))) o tt
+      by (Ok u) is = (Ok a_channel, (a, says, sym is), called (device.SetBackendReqFd a_channel) says (f.0 a_channel is))
+      by (Err e) is = (Err e, (a, says, sym is), (f.1 e is, refl))
+
+  opened-gpu : (h : PlainHandle) → Says form.Done r a → IsFollowed (OpensGpu h (λ opened. channel s m opened >>= (λ k. calls s m (device.SetGpuSocket k))))
+  opened-gpu h says f = by (done_in a) refl
+    where
+      by : (x : Result ⊤ Error) → done_in a ≡ x → Follows (replies r) (opens r) (opens r) s tt (OpensGpu h (λ opened. channel s m opened >>= (λ k. calls s m (device.SetGpuSocket k)))) o tt
+      by (Ok u) is = (Ok a_display, (a, says, sym is), called (device.SetGpuSocket a_display) says (f.0 a_display))
+      by (Err e) is = (Err e, (a, says, sym is), (f.1 e is, refl))
+
+  step-followed : (c : DeviceCall) → Makes (step_of {B = Channel} {G = Display} s m c) → Says (form_in c) r a → IsFollowed (step_of s m c)
+  step-followed (call.SetLogBase l) makes says = one IsFollowed m.handles _ makes (λ h. called (device.SetLogBase l h) says)
+  step-followed (call.SetVringKick i given) makes says = wanted IsFollowed given m.handles _ makes (λ h. called (device.SetVringKick i h) says)
+  step-followed (call.SetVringCall i given) makes says = wanted IsFollowed given m.handles _ makes (λ h. called (device.SetVringCall i h) says)
+  step-followed (call.SetVringErr i given) makes says = wanted IsFollowed given m.handles _ makes (λ h. called (device.SetVringErr i h) says)
+  step-followed call.SetBackendReqFd makes says = one IsFollowed m.handles _ makes (λ h. opened-backend h says)
+  step-followed call.SetGpuSocket makes says = one IsFollowed m.handles _ makes (λ h. opened-gpu h says)
+  step-followed (call.SetInflightFd area) makes says = one IsFollowed m.handles _ makes (λ h. called (device.SetInflightFd area h) says)
+  step-followed (call.AddMemRegion region listens) makes says = one IsFollowed m.handles _ makes (λ h. called (device.AddMemRegion region h (Some listens)) says)
+  step-followed (call.SetDeviceStateFd direction phase) makes says = one IsFollowed m.handles _ makes (λ h f. (_, (a, says, b, refl), f))
+  step-followed _ makes says = λ f. (_, (a, says, b, refl), f)
+
+  pub followed : (c : DeviceCall) → Makes (row s m) → serving.IsCall s m c → Says (form_in c) r a → FollowsFrom s b a (row s m) o → Follows (replies r) (opens r) (opens r) s tt (row s m) o tt
+  followed c makes is says = subst {A = Row} IsFollowed (sym is) (step-followed c (subst {A = Row} (λ x. Makes x) is makes) says)
 
 -- ---- one reply
 
@@ -114,7 +143,7 @@ module _ (m : Request) (r : Reply) (old new : Served) (due : IsOpen m old) where
       met : IsMet m r (served.remembers old) new
       met = record {
         outcome = settled (served.remembers old) m o;
-        meets = (o, followed (served.remembers old) m c due.bare makes is r a rs place o says follows, refl);
+        meets = (o, followed (served.remembers old) m r (beside rs place) a o c makes is says follows, refl);
         memory = memory;
         queue = queue ∙ ap (λ cells. cells ++ reply_cells m.request (settled (served.remembers old) m o).served) due.queue;
         came = came ∙ due.came;
@@ -151,11 +180,11 @@ said f why isnt rejects = by (not-said f reply.Refused why isnt rejects)
     by (inr bad) = bad
 
 -- the forms of a call are one
-asks-form : (x : Row) (f : Form) → Asks x f → asked_form x ≡ f
-asks-form x f a = ap {A = Row} asked_form a.is ∙ a.same
-
-one-form : (s : Session) (m : Request) (c d : DeviceCall) → m.handles ≡ [] → Makes (row s m) → IsCall s m c → IsCall s m d → form_in c ≡ form_in d
-one-form s m c d none makes is-c is-d = sym (asks-form (row s m) (form_in c) (asked s m c none makes is-c)) ∙ asks-form (row s m) (form_in d) (asked s m d none makes is-d)
+one-form : (s : Session) (m : Request) (c d : DeviceCall) → Makes (row s m) → IsCall s m c → IsCall s m d → form_in c ≡ form_in d
+one-form s m c d makes is-c is-d = sym (form-of c is-c) ∙ form-of d is-d
+  where
+    form-of : (e : DeviceCall) → IsCall s m e → asked_form (row s m) ≡ form_in e
+    form-of e is = ap {A = Row} asked_form is ∙ step-form s m e (subst {A = Row} (λ x. Makes x) is makes)
 
 -- it was answered at once
 pub first-ok : (m : Request) (r : Reply) (old new : Served) → IsOpen m old → Answering r old (Ok tt) new → IsMet m r (served.remembers old) new
@@ -173,7 +202,7 @@ module _ (m : Request) (r : Reply) (new : Served) (result : Result ⊤ Refusal) 
       makes = subst {A = Row} (λ x. Makes x) (sym due.read.read.prepares.row) due.read.read.prepares.makes
 
       says : (d : DeviceCall) (a : DeviceAnswer PlainHandle) → IsCall (served.remembers old) m d → Gives (form_in d) reply.Refused a → Says (form_in d) r a
-      says d a is-d given = inr (subst {A = Form} (λ f. (fits f r ≡ false) ⊎ IsBad r) (one-form (served.remembers old) m c d due.bare makes is is-d) (not-said (form_in c) r why isnt rejects), given)
+      says d a is-d given = inr (subst {A = Form} (λ f. (fits f r ≡ false) ⊎ IsBad r) (one-form (served.remembers old) m c d makes is is-d) (not-said (form_in c) r why isnt rejects), given)
 
       by : (x : Result ⊤ Refusal) → Replying m (λ f a. Gives f reply.Refused a) (λ f e. Rejects f reply.Refused e) old.core.service.shmem old x new → Serves m r (served.remembers old) (goes x) new
       by _ (done d) = concluded m r old new due d.call d.answer old.core.service.shmem (Ok tt) d.makes (says d.call d.answer d.makes d.is_given) d.concludes d.rest

@@ -24,7 +24,7 @@ use Rattle.vhost_protocol.specs.Served.{Silent, Acknowledged, Replied}
 use Rattle.vhost_protocol.specs.Served.{Served as Wrote}
 use Rattle.vhost_protocol.specs.Session.{Session as Memory, heard_in}
 use Rattle.vhost_protocol.specs.Step.{Outcome}
-use Rattle.vhost_protocol.specs.Stream.{has_some}
+use Rattle.vhost_protocol.specs.Stream.{Cell, bytes}
 use Rattle.vhost_protocol.specs.Take.{take}
 use Rattle.vhost_protocol.specs.Written.{Written, head_of, written_cells, written_text}
 use Rattle.vhost_protocol.proofs.FollowLaws.{met-known, met-good, met-well}
@@ -38,7 +38,7 @@ use Rattle.vhost_serving.specs.declared.halves.Pending.{Pending}
 use Rattle.vhost_serving.specs.declared.service.Service.{Service}
 use Rattle.vhost_frontend_core.specs.Frontend.{awaits, endpoint_of}
 use Rattle.vhost_frontend_core.specs.Values.{answer_of, call_of}
-use Rattle.vhost_frontend_core.specs.ValueHalves.{IsSent, IsProper, TakesResult}
+use Rattle.vhost_frontend_core.specs.ValueHalves.{IsSent, TakesResult}
 use Rattle.vhost_frontend_core.specs.declared.values.answer.FrontendAnswer.{FrontendAnswer}
 use Rattle.vhost_frontend_core.specs.declared.values.answer.FrontendAnswer.TheVariants as value
 use Rattle.vhost_c_common.specs.Incoming.{missing_by}
@@ -51,19 +51,20 @@ use Rattle.vhost_c_backend.specs.Serving.{Channel, Display, Request}
 use Rattle.vhost_c_backend.specs.declared.replies.Reply.{Reply}
 use Rattle.vhost_c_backend.specs.declared.served.Served.{Served}
 use Rattle.vhost_c.specs.Incoming.{is_sized, missing_from}
-use Rattle.vhost_c.specs.Joined.{AreInStep, Brings, IsMet, IsPlain, Meeting, replied, IsSized, Joins, Offers, Serves, is_want, opens, replies, answer_to, halted}
+use Rattle.vhost_c.specs.Device.{IsMet, IsSized, Serves, halted, is_want, opens, replies}
+use Rattle.vhost_c.specs.Joined.{AreInStep, HasFds, IsPlain, Meeting, Joins, Offers, answer_to}
 use Rattle.vhost_c.specs.Session as session
 use Rattle.vhost_c.specs.Session.{Takes, TakesOne, kept, failed, other_size, nothing_asked, not_yet, missing_for, is_sized_of, Asks}
-use Rattle.vhost_c.specs.Wire.{IsTold, IsOnWay, IsOver, Stops}
+use Rattle.vhost_c.specs.Wire.{HasCome, IsTold, IsOnWay, IsOver, Stops}
 use Rattle.vhost_c.specs.declared.session.Asked.{Asked as CallAsked}
 use Rattle.vhost_c.specs.declared.session.Session.{Session}
 use Rattle.vhost_c.specs.declared.wire.Halt.{Halt}
 use Rattle.vhost_c.specs.declared.wire.Halt.TheVariants as halt
+use Rattle.vhost_c.proofs.Brought.{met-brings}
 use Rattle.vhost_c.proofs.Fitting.{reply-fits}
 use Rattle.vhost_c.proofs.Joining as joining
 use Rattle.vhost_c.proofs.Joining.{Sent}
 use Rattle.vhost_c.proofs.Offering.{offers-so}
-use Rattle.vhost_c.proofs.Pieces.{as-carried}
 use Rattle.vhost_c.proofs.Replying.{IsHeardBy, as-cells, handles_in, heard-by, text_in}
 use Rattle.vhost_c.proofs.Settings.{Has, answered-with, kept-sent}
 use Rattle.vhost_c.proofs.Waited.{never-silent}
@@ -97,7 +98,7 @@ silent-text q Silent is = refl
 silent-text q (Acknowledged agreed) is = absurd (cc is)
 silent-text q (Replied payload handles) is = absurd (cc is)
 
-module _ (bit : Bool) (call : Call) (proper : IsProper call) (r : Reply) (fits : IsSized r) (offers : Offers bit call r) (f0 f1 f2 : Session) (b0 b1 b2 : Served) (steps : AreInStep bit f0 b0) (s : Sent call f0 f1)
+module _ (bit : Bool) (call : Call) (given : HasFds call) (r : Reply) (fits : IsSized r) (offers : Offers bit call r) (f0 f1 f2 : Session) (b0 b1 b2 : Served) (steps : AreInStep bit f0 b0) (s : Sent call f0 f1)
     (over : IsOver (missing_by (heard_in (served.remembers b0))) s.w.handles (written_text request_number s.w) (session.view f1) (served.view b0) (session.view f2) (served.view b1))
     (met : IsMet (read_as s.w) r (served.remembers b1) b2) (alive : is_some (served.remembers b2).failed ≡ false) where
   abbrev f : Frontend
@@ -116,10 +117,10 @@ module _ (bit : Bool) (call : Call) (proper : IsProper call) (r : Reply) (fits :
   o = met.outcome
 
   named : is_named s.w.request ≡ true
-  named = (joining.whole bit call proper f0 f1 b0 steps s).named
+  named = (joining.whole bit call given f0 f1 b0 steps s).named
 
-  meets : Meets (replies r) opens opens memory tt (read_as s.w) o tt
-  meets = subst {A = Memory} (λ k. Meets (replies r) opens opens k tt (read_as s.w) o tt) (joining.memory bit call proper f0 f1 b0 steps s f2 b1 over) met.meets
+  meets : Meets (replies r) (opens r) (opens r) memory tt (read_as s.w) o tt
+  meets = subst {A = Memory} (λ k. Meets (replies r) (opens r) (opens r) k tt (read_as s.w) o tt) (joining.memory bit call given f0 f1 b0 steps s f2 b1 over) met.meets
 
   memory-standard : memory.profile ≡ Standard
   memory-standard = sym steps.agree.profile ∙ steps.standard
@@ -128,10 +129,10 @@ module _ (bit : Bool) (call : Call) (proper : IsProper call) (r : Reply) (fits :
   goes-on = ap (λ p. stops p s.w.request o) memory-standard ∙ ap {A = Memory} (λ k. is_some k.failed) (sym met.memory) ∙ alive
 
   known : IsServed memory.profile call awaited g s.w.request o
-  known = met-known {B = Channel} {G = Display} (replies r) opens opens f memory call s.w awaited g tt o tt steps.agree steps.negotiates.0 proper.bits s.is meets
+  known = met-known {B = Channel} {G = Display} (replies r) (opens r) (opens r) f memory call s.w awaited g tt o tt steps.agree steps.negotiates.0 s.keeps.proper.bits s.is meets
 
   good : IsGoodReply call o.served
-  good = met-good {B = Channel} {G = Display} (replies r) opens opens (reply-fits r fits) f memory call s.w awaited g tt o tt steps.agree.profile proper.small s.is meets
+  good = met-good {B = Channel} {G = Display} (replies r) (opens r) (opens r) (reply-fits r fits) f memory call s.w awaited g tt o tt steps.agree.profile s.keeps.proper.small s.is meets
 
   plainly : IsAwaitedBy call awaited × (s.w.reply ≡ has_bit f.header_flags 2)
   plainly = subst (λ (x : Asked PlainHandle). AsksPlainly f call x) s.is (awaits-shape PlainHandle f call)
@@ -167,23 +168,23 @@ module _ (bit : Bool) (call : Call) (proper : IsProper call) (r : Reply) (fits :
   pub told : (text ≡ []) ⊎ IsTold text (missing_for (session.remembers f2).profile f2.asked)
   told = subst (λ (m : Incoming → ℕ). (text ≡ []) ⊎ IsTold text m) (λ j i. sym (missing-is i) j) heard.told
 
+  -- nothing came before
+  waits : session.arrived f2 ≡ []
+  waits = over.moves.hands.came ∙ s.keeps.nothing_waits
+
   pub on-way : IsOnWay hs text (served.view b2) (session.view f2)
   on-way = record {
-    came = [];
-    left = text;
-    whole = refl;
+    whole = ap (λ cells. cells ++ served.queued b2) waits ∙ met.queue ∙ as-cells s.w.request o.served;
     few = heard.few;
-    queue = met.queue ∙ as-cells s.w.request o.served;
-    arrived = over.moves.hands.came ∙ s.keeps.nothing_waits;
-    bare = inl refl;
-    has = record { count = ap {A = Incoming} (λ i. i.count) over.moves.hands.incoming ∙ s.keeps.nothing_came; head = refl };
+    fds = met-brings r fits memory (read_as s.w) o meets;
+    has = subst {A = List (Cell PlainHandle)} (λ cells. HasCome (bytes cells) f2.incoming) (sym waits) (record { count = ap {A = Incoming} (λ i. i.count) over.moves.hands.incoming ∙ s.keeps.nothing_came; head = refl });
   }
 
   -- it is never waited for in vain
   pub answers-come : (text ≡ []) × (i : Incoming) × (i.count ≡ 0) × (0 < missing_for (session.remembers f2).profile f2.asked i) → ⊥
   answers-come (none, i, zero-came, some) =
       never-silent PlainHandle memory f g call awaited s.w o bit steps.agree s.is (subst (λ (x : Asked PlainHandle). AskedNegotiates bit x) s.is (calls-negotiate PlainHandle bit f call steps.negotiates))
-      (met-well {B = Channel} {G = Display} (replies r) opens opens memory (read_as s.w) tt o tt memory-standard meets) (ap {A = Memory} (λ k. is_some k.failed) (sym met.memory) ∙ alive) (silent-text s.w.request o.served none)
+      (met-well {B = Channel} {G = Display} (replies r) (opens r) (opens r) memory (read_as s.w) tt o tt memory-standard meets) (ap {A = Memory} (λ k. is_some k.failed) (sym met.memory) ∙ alive) (silent-text s.w.request o.served none)
       known.to_caller known.known (known.agree goes-on) (λ nobody. never (subst (λ n. 0 < n) (missing-is i ∙ ap (λ a. missing_from Standard call a i) nobody) some))
     where
       never : 0 < 0 → ⊥
@@ -200,7 +201,7 @@ module _ (bit : Bool) (call : Call) (proper : IsProper call) (r : Reply) (fits :
     memory3 = ap {A = Front} (λ k. k.0) rest3
 
     came3 : session.arrived f3 ≡ reply_cells s.w.request o.served
-    came3 = back.arrived ∙ as-carried hs text back.bare ∙ sym (as-cells s.w.request o.served)
+    came3 = back.arrived ∙ sym (as-cells s.w.request o.served)
 
     missing3 : session.missing_of f3 ≡ 0
     missing3 = ap {A = Front} (λ k. missing_for k.0.profile k.1 f3.incoming) back.moves.waits.rest ∙ back.whole
@@ -237,9 +238,9 @@ module _ (bit : Bool) (call : Call) (proper : IsProper call) (r : Reply) (fits :
     shown a = record { request = written_cells request_number s.w; handled = Some o.answer; reply = reply_cells s.w.request o.served; result = answer_of a; last = false }
 
     step : (a : FrontendAnswer) → Took known.to_caller (endpoint_of f3.frontend) (endpoint_of f4.frontend) (answer_of a) (session.remembers f4)
-        → protocol.JoinedStep (replies r) opens opens f memory tt call (shown a) (session.remembers f4) (served.remembers b3) tt
+        → protocol.JoinedStep (replies r) (opens r) (opens r) f memory tt call (shown a) (session.remembers f4) (served.remembers b3) tt
     step a t =
-        subst (λ (x : Asked PlainHandle). protocol.Exchanges (replies r) opens opens f memory tt call x (shown a) (session.remembers f4) (served.remembers b3) tt) (sym s.is)
+        subst (λ (x : Asked PlainHandle). protocol.Exchanges (replies r) (opens r) (opens r) f memory tt call x (shown a) (session.remembers f4) (served.remembers b3) tt) (sym s.is)
         (o, meets, memory4, known.known ∙ ap (λ (x : Answered PlainHandle). Some x) (sym t.is), refl, refl, refl, sym goes-on)
 
     in-step : (asked : CallAsked) (a : FrontendAnswer) → TakesOne asked (endpoint_of f3.frontend) f3 a f4 → Took known.to_caller (endpoint_of f3.frontend) (endpoint_of f4.frontend) (answer_of a) (session.remembers f4) → AreInStep bit f4 b3
@@ -308,9 +309,9 @@ unasked-so bit call r f0 f1 b0 _ steps (session.fails {e = e} why lasts) stays f
     same : session.remembers f1 ≡ session.remembers f0
     same = stays.rest.memory
 
-    by : (x : declared.Error) → is_want (Protocol x) ≡ false → session.Fails call f0 x → protocol.JoinedStep (replies r) opens opens (session.remembers f0) (served.remembers b0) tt call (unsent (Err (seen x))) (session.remembers f1) (served.remembers b0) tt
+    by : (x : declared.Error) → is_want (Protocol x) ≡ false → session.Fails call f0 x → protocol.JoinedStep (replies r) (opens r) (opens r) (session.remembers f0) (served.remembers b0) tt call (unsent (Err (seen x))) (session.remembers f1) (served.remembers b0) tt
     by x free (session.refused is) =
-        subst (λ (y : Asked PlainHandle). protocol.Exchanges (replies r) opens opens (session.remembers f0) (served.remembers b0) tt call y (unsent (Err (seen x))) (session.remembers f1) (served.remembers b0) tt) (sym is) (refl, same, refl, refl)
+        subst (λ (y : Asked PlainHandle). protocol.Exchanges (replies r) (opens r) (opens r) (session.remembers f0) (served.remembers b0) tt call y (unsent (Err (seen x))) (session.remembers f1) (served.remembers b0) tt) (sym is) (refl, same, refl, refl)
     by _ free (session.no_queue some) = absurd (cc free)
     by _ free (session.no_list away) = absurd (cc free)
     by _ free (session.no_answer room) = absurd (cc free)
@@ -336,29 +337,17 @@ unasked-so bit call r f0 f1 b0 _ steps (session.fails {e = e} why lasts) stays f
 pub want-halts : (bit : Bool) (call : Call) (r : Reply) (f0 f1 : Session) (b0 b1 : Served) (m : Request) (before : Memory) (h : Halt) → Serves m r before (Err h) b1 → Joins bit call r f0 b0 (Err h) f1 b1
 want-halts bit call r f0 f1 b0 b1 m before (halt.WantsMemory why) serves = serves
 want-halts bit call r f0 f1 b0 b1 m before halt.Silent serves = absurd serves
-want-halts bit call r f0 f1 b0 b1 m before halt.Descriptors serves = absurd serves
 want-halts bit call r f0 f1 b0 b1 m before halt.Ended serves = absurd serves
 
-pub stop-halts : (bit : Bool) (call : Call) (r : Reply) (f0 f1 : Session) (b0 b1 : Served) (missing : Incoming → ℕ) (handles : List PlainHandle) (bytes : List ℕ) (h : Halt) → ((bytes ≡ []) × (i : Incoming) × (i.count ≡ 0) × (0 < missing i) → ⊥) → (has_some handles ≡ true → Brings call r f0 b0) → Stops missing handles bytes h
-    → Joins bit call r f0 b0 (Err h) f1 b1
-stop-halts bit call r f0 f1 b0 b1 missing handles bytes (halt.WantsMemory why) never brings is = ap is_want is
-stop-halts bit call r f0 f1 b0 b1 missing handles bytes halt.Silent never brings is = absurd (never is)
-stop-halts bit call r f0 f1 b0 b1 missing handles bytes halt.Descriptors never brings is = brings is
-stop-halts bit call r f0 f1 b0 b1 missing handles bytes halt.Ended never brings is = absurd is
+pub stop-halts : (bit : Bool) (call : Call) (r : Reply) (f0 f1 : Session) (b0 b1 : Served) (missing : Incoming → ℕ) (bytes : List ℕ) (h : Halt) → ((bytes ≡ []) × (i : Incoming) × (i.count ≡ 0) × (0 < missing i) → ⊥) → Stops missing bytes h → Joins bit call r f0 b0 (Err h) f1 b1
+stop-halts bit call r f0 f1 b0 b1 missing bytes (halt.WantsMemory why) never is = ap is_want is
+stop-halts bit call r f0 f1 b0 b1 missing bytes halt.Silent never is = absurd (never is)
+stop-halts bit call r f0 f1 b0 b1 missing bytes halt.Ended never is = absurd is
 
-module _ (bit : Bool) (call : Call) (proper : IsProper call) (r : Reply) (f0 f1 f2 : Session) (b0 b1 b2 : Served) (steps : AreInStep bit f0 b0) (s : Sent call f0 f1)
+module _ (bit : Bool) (call : Call) (given : HasFds call) (r : Reply) (f0 f1 f2 : Session) (b0 b1 b2 : Served) (steps : AreInStep bit f0 b0) (s : Sent call f0 f1)
     (over : IsOver (missing_by (heard_in (served.remembers b0))) s.w.handles (written_text request_number s.w) (session.view f1) (served.view b0) (session.view f2) (served.view b1)) (met : IsMet (read_as s.w) r (served.remembers b1) b2) where
   meeting : Meeting call r f0 b0 s.w met.outcome
-  meeting = record { awaited = _; after = _; asked = s.is; meets = subst {A = Memory} (λ k. Meets (replies r) opens opens k tt (read_as s.w) met.outcome tt) (joining.memory bit call proper f0 f1 b0 steps s f2 b1 over) met.meets }
-
-  -- its reply brings a descriptor
-  pub reply-brings : has_some (handles_in met.outcome.served) ≡ true → Brings call r f0 b0
-  reply-brings some = by met.outcome.served refl some
-    where
-      by : (x : Wrote PlainHandle) → met.outcome.served ≡ x → has_some (handles_in x) ≡ true → Brings call r f0 b0
-      by (Replied payload handles) is some = replied s.w met.outcome meeting payload handles is some
-      by Silent is some = absurd (cc some)
-      by (Acknowledged agreed) is some = absurd (cc some)
+  meeting = record { awaited = _; after = _; asked = s.is; meets = subst {A = Memory} (λ k. Meets (replies r) (opens r) (opens r) k tt (read_as s.w) met.outcome tt) (joining.memory bit call given f0 f1 b0 steps s f2 b1 over) met.meets }
 
   -- the session has ended
   pub ended-so : (b : Bool) → b ≡ is_some (served.remembers b2).failed → b ≡ true → Joins bit call r f0 b0 (Err halt.Ended) f2 b2
@@ -373,8 +362,8 @@ flags-so bit call r f0 f1 b0 n flags steps plain (session.sent w is queue keeps 
     no-message f w a g is = cc is
 flags-so bit call r f0 f1 b0 n flags steps plain (session.at_once k is memory queue asked incoming answer end) = (unsent (Ok Nothing), step, result, refl, in-step)
   where
-    step : protocol.JoinedStep (replies r) opens opens (session.remembers f0) (served.remembers b0) tt call (unsent (Ok Nothing)) (session.remembers f1) (served.remembers b0) tt
-    step = subst (λ c. protocol.JoinedStep (replies r) opens opens (session.remembers f0) (served.remembers b0) tt c (unsent (Ok Nothing)) (session.remembers f1) (served.remembers b0) tt) (sym is) (refl, memory, refl, refl)
+    step : protocol.JoinedStep (replies r) (opens r) (opens r) (session.remembers f0) (served.remembers b0) tt call (unsent (Ok Nothing)) (session.remembers f1) (served.remembers b0) tt
+    step = subst (λ c. protocol.JoinedStep (replies r) (opens r) (opens r) (session.remembers f0) (served.remembers b0) tt c (unsent (Ok Nothing)) (session.remembers f1) (served.remembers b0) tt) (sym is) (refl, memory, refl, refl)
 
     result : Ok Nothing ≡ answer_to call f1
     result = ap (λ c. answer_to c f1) (sym is)

@@ -28,7 +28,7 @@ use Rattle.vhost_c_backend.specs.Served as served
 use Rattle.vhost_c_backend.specs.Serving.{Request, Channel, Display, row, Begins, Denies, Nexts, IsServed}
 use Rattle.vhost_c_backend.specs.declared.replies.Reply.{Reply}
 use Rattle.vhost_c_backend.specs.declared.served.Served.{Served}
-use Rattle.vhost_c.specs.Joined.{replies, opens, is_want, halted, IsDue, IsOpen, IsMet, Serves}
+use Rattle.vhost_c.specs.Device.{replies, opens, is_want, halted, IsDue, IsOpen, IsMet, Serves}
 use Rattle.vhost_c.proofs.Answering.{unless}
 use Rattle.vhost_c.proofs.Lasting.{fell-cause, cause-want, stop-want}
 
@@ -41,7 +41,6 @@ opened m number old new due next =
     let same : b.message ≡ m = cc (ap (λ x. x.0) both) in (
       record {
         read = subst {A = Request} (λ k. IsServed k new) same b.served;
-        bare = due.bare;
         came = ap (λ x. x.1) both;
         count = b.nothing_came;
         queue = b.queue ∙ due.queue;
@@ -56,7 +55,7 @@ abbrev Met : Session → ⊤ → Message FrontendReq PlainHandle → Result ⊤ 
 Met = MeetsRow (fitting (uncalled Channel Display)) (unopened Channel Display) (unopened Channel Display)
 
 -- a device that is never called may answer by any reply
-refused-by : (r : Reply) (s : Session) (x : Step PlainHandle Channel Display) (o : Outcome PlainHandle) → Follows (fitting (uncalled Channel Display)) (unopened Channel Display) (unopened Channel Display) s tt x o tt → Follows (replies r) opens opens s tt x o tt
+refused-by : (r : Reply) (s : Session) (x : Step PlainHandle Channel Display) (o : Outcome PlainHandle) → Follows (fitting (uncalled Channel Display)) (unopened Channel Display) (unopened Channel Display) s tt x o tt → Follows (replies r) (opens r) (opens r) s tt x o tt
 refused-by r s (Refused refusal) o f = f
 refused-by r s (Calls c next) o f = absurd f.1.0
 refused-by r s (OpensBackend h next) o f = absurd f.1

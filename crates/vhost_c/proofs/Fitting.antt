@@ -17,7 +17,7 @@ use Rattle.vhost_c_backend.specs.declared.replies.Form.{Form}
 use Rattle.vhost_c_backend.specs.declared.replies.Form.TheVariants as form
 use Rattle.vhost_c_backend.specs.declared.replies.Reply.{Reply}
 use Rattle.vhost_c_backend.specs.declared.replies.Reply.TheVariants as reply
-use Rattle.vhost_c.specs.Joined.{Says, replies, IsSized}
+use Rattle.vhost_c.specs.Device.{Says, replies, IsSized}
 
 abbrev Small : ℕ → Type 0
 Small n = n < 2 ^ 64
@@ -57,7 +57,7 @@ module _ (place : VhostUserShMemConfig) where
   given-sized form.Config (reply.Config bs) a sized gives = bytes-sized a bs.now gives
   given-sized form.Fd (reply.Fd fd) a sized gives = is-sized a _ gives.2 (record { number = tt; bases = tt; base = tt; ring_state = tt; inflight = tt; shmem = tt })
   given-sized form.StateFd (reply.Fd fd) a sized gives = is-sized a _ gives (record { number = tt; bases = tt; base = tt; ring_state = tt; inflight = tt; shmem = tt })
-  given-sized form.Inflight (reply.Inflight i fd) a sized gives = is-sized a _ gives.2 (record { number = tt; bases = tt; base = tt; ring_state = tt; inflight = sized; shmem = tt })
+  given-sized form.Inflight (reply.Inflight i fd) a sized gives = is-sized a _ gives.2 (record { number = tt; bases = tt; base = tt; ring_state = tt; inflight = sized.0; shmem = tt })
   given-sized _ _ a sized gives = absurd gives
 
   said-sized : (f : Form) (r : Reply) (a : DeviceAnswer PlainHandle) → IsSized r → Says f r a → Sized a

@@ -1,6 +1,6 @@
 -- A call of joined sessions, from its request to its answer.
-use Rattle.std.proofs.Common.{◌≡◌, ◌⊎◌, ◌<◌, ◌≤◌, ◌^◌, inl, inr, ℕ, Bool, true, false, List, [], ◌++◌, length, Option, None, Ok, refl, sym, ap, subst, ◌∙◌, length-append, arith}
-use Rattle.std.specs.Prelude.{is_some, if◌then◌else◌}
+use Rattle.std.proofs.Common.{◌≡◌, ◌<◌, ◌≤◌, ◌^◌, ℕ, Bool, true, false, List, [], ◌++◌, length, Option, None, Ok, refl, sym, ap, subst, ◌∙◌, length-append, arith}
+use Rattle.std.specs.Prelude.{All, is_some, if◌then◌else◌}
 use Rattle.std.proofs.lemmas.List.{append-nil}
 use Rattle.vhost_message.specs.Header.{header_text}
 use Rattle.vhost_message.specs.declared.frontend_req.FrontendReq.{FrontendReq}
@@ -13,7 +13,7 @@ use Rattle.vhost_protocol.specs.Heard.{AsksSendable, IsSendable}
 use Rattle.vhost_protocol.specs.Joined.{read_as}
 use Rattle.vhost_protocol.specs.Session.{Session as Memory, heard_in}
 use Rattle.vhost_protocol.specs.Split.{announced, split}
-use Rattle.vhost_protocol.specs.Stream.{carrying}
+use Rattle.vhost_protocol.specs.Stream.{Cell, bytes}
 use Rattle.vhost_protocol.specs.Written.{Written, head_of, payload_text, written_cells, written_text}
 use Rattle.vhost_protocol.proofs.HeardLaws.{heard-named}
 use Rattle.vhost_protocol.proofs.SendLaws.{sends-whole}
@@ -24,17 +24,18 @@ use Rattle.vhost_serving_core.specs.Session.{session_of}
 use Rattle.vhost_serving.specs.declared.halves.Pending.{Pending}
 use Rattle.vhost_serving.specs.declared.service.Service.{Service}
 use Rattle.vhost_frontend_core.specs.Frontend.{awaits, endpoint_of}
-use Rattle.vhost_frontend_core.specs.ValueHalves.{IsProper, IsSent}
+use Rattle.vhost_frontend_core.specs.ValueHalves.{IsSent}
 use Rattle.vhost_c_common.specs.Incoming.{missing_by}
 use Rattle.vhost_c_common.specs.View.{End}
 use Rattle.vhost_c_backend.specs.Served as served
 use Rattle.vhost_c_backend.specs.declared.served.Served.{Served}
-use Rattle.vhost_c.specs.Joined.{AreInStep, IsDue}
+use Rattle.vhost_c.specs.Device.{IsDue}
+use Rattle.vhost_c.specs.Joined.{AreInStep, HasFds}
 use Rattle.vhost_c.specs.Session as session
 use Rattle.vhost_c.specs.Session.{Asks, sent, at_once, Keeps}
-use Rattle.vhost_c.specs.Wire.{IsTold, IsOnWay, IsOver}
+use Rattle.vhost_c.specs.Wire.{HasCome, IsFd, IsTold, IsOnWay, IsOver}
 use Rattle.vhost_c.specs.declared.session.Session.{Session}
-use Rattle.vhost_c.proofs.Pieces.{carrying-none}
+use Rattle.vhost_c.proofs.Brought.{sent-brings}
 use Rattle.vhost_c.proofs.Told.{request-told, valid-head}
 
 abbrev Call : Type 0
@@ -63,9 +64,9 @@ sent-so call old new goes (at_once flags is memory queue asked incoming answer e
 
 -- ---- its request comes over
 
-module _ (bit : Bool) (call : Call) (proper : IsProper call) (f0 f1 : Session) (b0 : Served) (steps : AreInStep bit f0 b0) (s : Sent call f0 f1) where
+module _ (bit : Bool) (call : Call) (given : HasFds call) (f0 f1 : Session) (b0 : Served) (steps : AreInStep bit f0 b0) (s : Sent call f0 f1) where
   pub whole : IsSendable s.w
-  whole = subst (λ (x : Asked PlainHandle). AsksSendable x) s.is (sends-whole PlainHandle (session.remembers f0) call proper.named)
+  whole = subst (λ (x : Asked PlainHandle). AsksSendable x) s.is (sends-whole PlainHandle (session.remembers f0) call s.keeps.proper.named)
 
   small : length (payload_text s.w.payload) ≤ MAX_MSG_SIZE
   small = whole.size
@@ -91,26 +92,18 @@ module _ (bit : Bool) (call : Call) (proper : IsProper call) (f0 f1 : Session) (
   few : length request ≤ MAX_MSG_TEXT
   few = let long = length-append (header_text (head_of request_number s.w)) (payload_text s.w.payload) in omega (arith, long, small)
 
+  fds : All IsFd s.w.handles
+  fds = sent-brings (session.remembers f0) call (Sends s.w (awaits f1.frontend) (session.remembers f1)) given s.is
+
   pub on-way : IsOnWay s.w.handles request (session.view f1) (served.view b0)
   on-way = record {
-    came = [];
-    left = request;
-    whole = refl;
+    whole = ap (λ cells. cells ++ session.queued f1) steps.no_request.1 ∙ s.queue ∙ ap (λ cells. cells ++ written_cells request_number s.w) steps.no_request.0;
     few = few;
-    queue = s.queue ∙ ap (λ cells. cells ++ written_cells request_number s.w) steps.no_request.0;
-    arrived = steps.no_request.1;
-    bare = inl refl;
-    has = record { count = steps.no_request.2; head = refl };
+    fds = fds;
+    has = subst {A = List (Cell PlainHandle)} (λ cells. HasCome (bytes cells) b0.incoming) (sym steps.no_request.1) (record { count = steps.no_request.2; head = refl });
   }
 
   module _ (f2 : Session) (b1 : Served) (over : IsOver (missing_by heard) s.w.handles request (session.view f1) (served.view b0) (session.view f2) (served.view b1)) where
-    bare : s.w.handles ≡ []
-    bare = by over.bare
-      where
-        by : (request ≡ []) ⊎ (s.w.handles ≡ []) → s.w.handles ≡ []
-        by (inl none) = absurd (cc none)
-        by (inr none) = none
-
     pub memory : served.remembers b1 ≡ served.remembers b0
     memory = ap {A = Kept} (λ k. session_of k.2.session) over.moves.waits.rest
 
@@ -120,14 +113,13 @@ module _ (bit : Bool) (call : Call) (proper : IsProper call) (f0 f1 : Session) (
     came : split (heard_in (served.remembers b1)) allows_handles (served.arrived b1) ≡ (Ok (read_as s.w), [])
     came =
         ap {A = Memory} (λ k. split (heard_in k) allows_handles (served.arrived b1)) memory
-        ∙ ap (split heard allows_handles) (over.arrived ∙ sym (carrying-none request) ∙ ap (λ hs. carrying hs request) (sym bare) ∙ sym (append-nil (written_cells request_number s.w)))
+        ∙ ap (split heard allows_handles) (over.arrived ∙ sym (append-nil (written_cells request_number s.w)))
         ∙ written-split heard allows_handles request_number s.w [] sendable
 
     pub is-due : IsDue (read_as s.w) b1
     is-due = record {
       came = came;
       whole = ap (λ b. if b then 0 else served.missing_of_request b1) idle ∙ ap {A = Memory} (λ k. missing_by (heard_in k) b1.incoming) memory ∙ over.whole;
-      bare = bare;
       idle = idle;
       goes_on = ap {A = Memory} (λ k. k.failed) memory ∙ steps.goes_on;
       queue = over.moves.waits.queue ∙ steps.no_reply;

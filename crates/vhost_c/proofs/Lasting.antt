@@ -17,7 +17,7 @@ use Rattle.vhost_endpoint.specs.Requests.{Stops}
 use Rattle.vhost_endpoint.specs.Talk.{Fell}
 use Rattle.vhost_c_common.specs.View.{End}
 use Rattle.vhost_c_common.specs.declared.refusal.Refusal.TheVariants.{Protocol}
-use Rattle.vhost_c.specs.Joined.{is_want}
+use Rattle.vhost_c.specs.Device.{is_want}
 
 none-left : (n : ℕ) → drop {A = Cut} n [] ≡ []
 none-left zero = refl

@@ -27,7 +27,8 @@ use Rattle.vhost_c_backend.specs.Replies.{Gives}
 use Rattle.vhost_c_backend.specs.declared.replies.Form.TheVariants as form
 use Rattle.vhost_c_backend.specs.declared.replies.Reply.{Reply}
 use Rattle.vhost_c_backend.specs.declared.replies.Reply.TheVariants as reply
-use Rattle.vhost_c.specs.Joined.{Says, replies, opens, Offers}
+use Rattle.vhost_c.specs.Device.{Says, replies, opens}
+use Rattle.vhost_c.specs.Joined.{Offers}
 
 -- a reply's number
 given-number : (r : Reply) (a : DeviceAnswer PlainHandle) (n : ℕ) (bit : Bool) → Offers bit GetFeatures r → Gives form.Number r a → Ok n ≡ number_in a → has_bit n PROTOCOL_FEATURES ≡ bit
@@ -65,7 +66,7 @@ features-settled s n (Err e) = by-profile (is_standard s.profile)
     by-profile false = refl
 
 features-offer : (r : Reply) (bit : Bool) → Offers bit GetFeatures r → (s : Session) (need_reply reply : Bool) (o : Outcome PlainHandle) → reply ≡ false
-    → Meets (replies r) opens opens s tt (record { request = GET_FEATURES; reply = reply; need_reply = need_reply; body = []; handles = [] }) o tt → OffersBit {H = PlainHandle} bit GetFeatures o.served
+    → Meets (replies r) (opens r) (opens r) s tt (record { request = GET_FEATURES; reply = reply; need_reply = need_reply; body = []; handles = [] }) o tt → OffersBit {H = PlainHandle} bit GetFeatures o.served
 features-offer r bit offers s n true o plain met = absurd (cc plain)
 features-offer r bit offers s n false o plain (told, (a, given, same), is) =
     subst (λ (x : Outcome PlainHandle). OffersBit {H = PlainHandle} bit GetFeatures x.served) (sym (is ∙ ap (λ (x : Outcome PlainHandle). settled s (features_request n) x) same))
@@ -77,10 +78,10 @@ features-offer r bit offers s n false o plain (told, (a, given, same), is) =
 
 -- whatever is asked
 pub offers-so : (r : Reply) (bit : Bool) (f : Frontend) (s : Session) (call : FrontendCall PlainHandle) (w : Written FrontendReq PlainHandle) (awaited : Awaited) (g : Frontend) (o : Outcome PlainHandle) → Offers bit call r → has_bit f.header_flags 2 ≡ false → ask f call ≡ Sends w awaited g
-    → Meets (replies r) opens opens s tt (read_as w) o tt → OffersBit bit call o.served
+    → Meets (replies r) (opens r) (opens r) s tt (read_as w) o tt → OffersBit bit call o.served
 offers-so r bit f s GetFeatures w awaited g o offers plain asked met =
     let same : record { request = GET_FEATURES; reply = has_bit f.header_flags 2; need_reply = needs_reply f; body = []; handles = [] } ≡ read_as w = ap {A = Asked PlainHandle} message-of asked in
-    features-offer r bit offers s (needs_reply f) (has_bit f.header_flags 2) o plain (subst {A = Message FrontendReq PlainHandle} (λ m. Meets (replies r) opens opens s tt m o tt) (sym same) met)
+    features-offer r bit offers s (needs_reply f) (has_bit f.header_flags 2) o plain (subst {A = Message FrontendReq PlainHandle} (λ m. Meets (replies r) (opens r) (opens r) s tt m o tt) (sym same) met)
   where
     message-of : Asked PlainHandle → Message FrontendReq PlainHandle
     message-of (Sends v a h) = read_as v

@@ -1,69 +1,95 @@
 -- A piece of a message goes from one session to another.
-use Rattle.std.proofs.Common.{◌≡◌, ◌<◌, ◌≤◌, ◌+◌, true, ℕ, ℤ, zero, suc, min, List, [], ◌∷◌, ◌++◌, length, map, take, Some, Ok, ◌⊎◌, ⊎_elim, Contains, ◌^◌, ◌-◌, inl, inr, refl, sym, ap, subst, ◌∙◌, append_assoc, length-append, arith}
+use Rattle.std.proofs.Common.{◌≡◌, ◌<◌, ◌≤◌, ◌+◌, true, ℕ, ℤ, zero, suc, min, List, [], ◌∷◌, ◌++◌, length, map, take, All, Option, Some, None, Ok, ◌⊎◌, ⊎_elim, Contains, ◌^◌, ◌-◌, inl, inr, refl, sym, ap, subst, ◌∙◌, append_assoc, length-append, arith}
+use Rattle.std.specs.Prelude.{⊤, is_some}
 use Rattle.std.proofs.lemmas.List.{append-nil, length-take, take_all}
+use Rattle.std.proofs.lemmas.List.Elements.{All-nil, All-cons, All-head, All-tail, All-contains}
 use Rattle.std.proofs.lemmas.Bool.{cases_lt}
 use Rattle.vhost_message.specs.declared.error.Error.TheVariants.{OutOfMemory, InvalidParam}
 use Rattle.vhost_message.specs.declared.limits.TheConstants.{MAX_ATTACHED_FD_ENTRIES, MAX_MSG_TEXT, MSG_HEADER_SIZE}
-use Rattle.vhost_protocol.specs.Stream.{Cell, carrying, plain, first_handles, has_some}
-use Rattle.vhost_protocol.proofs.ReplyLaws.{plain-append}
+use Rattle.vhost_protocol.specs.Stream.{Cell, bytes, carrying, plain}
+use Rattle.vhost_protocol.proofs.TextLaws.{bytes-plain}
 use Rattle.vhost_link.specs.declared.plain.PlainHandle.{PlainHandle}
 use Rattle.vhost_c_common.specs.Incoming.{Adds}
 use Rattle.vhost_c_common.specs.Moving.{HandsOut, TakesIn}
-use Rattle.vhost_c_common.specs.Records.{handle_in}
+use Rattle.vhost_c_common.specs.Records.{fd_in, handle_in}
 use Rattle.vhost_c_common.specs.View.{View, Hands, HandsNone, Receives, TakesNone}
 use Rattle.vhost_c_common.specs.declared.incoming.Incoming.{Incoming}
 use Rattle.vhost_c_common.specs.declared.refusal.Refusal.{Refusal}
 use Rattle.vhost_c_common.specs.declared.refusal.Refusal.TheVariants.{Protocol, NoRoom, TooManyBytes}
-use Rattle.vhost_c.specs.Wire.{HasCome, IsTold, IsOnWay, Moves, IsOver, Steps}
-
--- ---- cells without descriptors
+use Rattle.vhost_c.specs.Wire.{HasCome, IsFd, IsTold, IsOnWay, Moves, IsOver, Steps}
 
 abbrev Cells : Type 0
 Cells = List (Cell PlainHandle)
 
-abbrev first_byte : Cells → ℕ
-first_byte [] = 0
-first_byte (c ∷ cs) = c.byte
+abbrev Handles : Type 0
+Handles = List PlainHandle
 
-abbrev later : Cells → Cells
-later [] = []
-later (c ∷ cs) = cs
+-- ---- bytes of cells
 
--- What is behind bytes of a text is the rest of it.
-record Splits (text xs : List ℕ) (rest : Cells) : Type 0 where
-  left : List ℕ
-  whole : text ≡ xs ++ left
-  is : rest ≡ plain left
+bytes-append : (xs ys : Cells) → bytes (xs ++ ys) ≡ bytes xs ++ bytes ys
+bytes-append [] ys = refl
+bytes-append (c ∷ xs) ys = ap (λ bs. c.byte ∷ bs) (bytes-append xs ys)
 
-plain-front : (xs text : List ℕ) (rest : Cells) → plain text ≡ plain xs ++ rest → Splits text xs rest
-plain-front [] text rest is = record { left = text; whole = refl; is = sym is }
-plain-front (x ∷ xs) [] rest is = absurd cc
-plain-front (x ∷ xs) (y ∷ text) rest is =
-    let t = plain-front xs text rest (ap later is) in
-    record { left = t.left; whole = ap (λ b. b ∷ text) (ap first_byte is) ∙ ap (λ bs. x ∷ bs) t.whole; is = t.is }
+pub bytes-carried : (hs : Handles) (text : List ℕ) → bytes (carrying hs text) ≡ text
+bytes-carried hs [] = refl
+bytes-carried hs (b ∷ text) = ap (λ bs. b ∷ bs) (bytes-plain PlainHandle text)
 
-carried-front : (hs hs' : List PlainHandle) (xs text : List ℕ) (rest : Cells) → 0 < length xs → carrying hs text ≡ carrying hs' xs ++ rest → Splits text xs rest × (hs' ≡ hs)
-carried-front hs hs' [] text rest some is = absurd (omega arith)
-carried-front hs hs' (x ∷ xs) [] rest some is = absurd cc
-carried-front hs hs' (x ∷ xs) (y ∷ text) rest some is =
-    let t = plain-front xs text rest (ap later is) in
-    (record { left = t.left; whole = ap (λ b. b ∷ text) (ap first_byte is) ∙ ap (λ bs. x ∷ bs) t.whole; is = t.is }, sym (ap first_handles is))
+no-bytes : (xs : Cells) → bytes xs ≡ [] → xs ≡ []
+no-bytes [] is = refl
+no-bytes (c ∷ xs) is = absurd (cc is)
 
-none-carried : (hs : List PlainHandle) (text : List ℕ) → carrying hs text ≡ [] → text ≡ []
-none-carried hs [] is = refl
-none-carried hs (b ∷ text) is = absurd cc
+-- ---- descriptors of cells
 
-bare : (hs : List PlainHandle) → map handle_in [] ≡ map Some hs → hs ≡ []
-bare [] is = refl
-bare (h ∷ hs) is = absurd cc
+-- the handles of each are descriptors
+abbrev AllFds : Cells → Type 0
+AllFds [] = ⊤
+AllFds (c ∷ cells) = All IsFd c.handles × AllFds cells
 
-pub carrying-none : (text : List ℕ) → carrying {H = PlainHandle} [] text ≡ plain text
-carrying-none [] = refl
-carrying-none (b ∷ text) = refl
+plain-fds : (text : List ℕ) → AllFds (plain text)
+plain-fds [] = tt
+plain-fds (b ∷ text) = (All-nil IsFd, plain-fds text)
 
-pub as-carried : (hs : List PlainHandle) (text : List ℕ) → (text ≡ []) ⊎ (hs ≡ []) → plain text ≡ carrying hs text
-as-carried hs text (inl none) = ap plain none ∙ sym (ap (carrying hs) none)
-as-carried hs text (inr none) = sym (carrying-none text) ∙ ap (λ xs. carrying xs text) (sym none)
+carried-fds : (hs : Handles) (text : List ℕ) → All IsFd hs → AllFds (carrying hs text)
+carried-fds hs [] fds = tt
+carried-fds hs (b ∷ text) fds = (fds, plain-fds text)
+
+later-fds : (xs ys : Cells) → AllFds (xs ++ ys) → AllFds ys
+later-fds [] ys fds = fds
+later-fds (c ∷ xs) ys fds = later-fds xs ys fds.1
+
+first-fds : (hs : Handles) (bs : List ℕ) (rest : Cells) → 0 < length bs → AllFds (carrying hs bs ++ rest) → All IsFd hs
+first-fds hs [] rest some fds = absurd (omega (arith, some))
+first-fds hs (b ∷ bs) rest some fds = fds.0
+
+-- their numbers name them again
+named-again : (hs : Handles) → All IsFd hs → map handle_in (map fd_in hs) ≡ map Some hs
+named-again [] fds = refl
+named-again (h ∷ hs) fds = ap (λ x. x ∷ map handle_in (map fd_in hs)) (All-head IsFd h hs fds) ∙ ap (λ xs. Some h ∷ xs) (named-again hs (All-tail IsFd h hs fds))
+
+same-handles : (hs ks : Handles) → map Some hs ≡ map Some ks → hs ≡ ks
+same-handles [] [] is = refl
+same-handles [] (k ∷ ks) is = absurd (cc is)
+same-handles (h ∷ hs) [] is = absurd (cc is)
+same-handles (h ∷ hs) (k ∷ ks) is = ap (λ x. x ∷ hs) one ∙ ap (λ xs. k ∷ xs) (same-handles hs ks (ap rest is))
+  where
+    rest : List (Option PlainHandle) → List (Option PlainHandle)
+    rest [] = []
+    rest (x ∷ xs) = xs
+
+    first : List (Option PlainHandle) → Option PlainHandle
+    first [] = None
+    first (x ∷ xs) = x
+
+    one : h ≡ k
+    one = let some : Some h ≡ Some k = ap first is in cc some
+
+-- there is one
+abbrev There : Option PlainHandle → Type 0
+There x = is_some x ≡ true
+
+all-there : (hs : Handles) → All There (map Some hs)
+all-there [] = All-nil There
+all-there (h ∷ hs) = All-cons There (Some h) (map Some hs) refl (all-there hs)
 
 -- ---- lists
 
@@ -77,15 +103,15 @@ some-of zero xs some many = absurd (omega arith)
 some-of (suc n) [] some many = absurd (omega arith)
 some-of (suc n) (x ∷ xs) some many = omega arith
 
-length-none : (xs : List ℕ) → xs ≡ [] → length xs ≡ 0
-length-none xs is = ap (λ (ys : List ℕ). length ys) is
-
-pub take-capped : (k n : ℕ) (xs : List ℕ) → k ≡ min n (length xs) → take k xs ≡ take n xs
+pub take-capped : {A : Type 0} (k n : ℕ) (xs : List A) → k ≡ min n (length xs) → take k xs ≡ take n xs
 take-capped k n xs is =
     ⊎_elim (λ (few : n < length xs). ap (λ j. take j xs) (let same : k ≡ n = omega (arith, is, few) in same))
     (λ (all : length xs ≤ n). take_all k xs (let enough : length xs ≤ k = omega (arith, is, all) in enough) ∙ sym (take_all n xs all)) (cases_lt n (length xs))
 
-pub take-few : (k m : ℕ) (xs : List ℕ) → length xs ≤ m → length (take k xs) ≤ m
+pub take-within : {A : Type 0} (k n m : ℕ) (xs : List A) → k ≡ min n m → length xs ≡ m → take k xs ≡ take n xs
+take-within k n m xs is long = take-capped k n xs (is ∙ ap (min n) (sym long))
+
+pub take-few : {A : Type 0} (k m : ℕ) (xs : List A) → length xs ≤ m → length (take k xs) ≤ m
 take-few k m xs few = let some : length (take k xs) ≡ min k (length xs) = length-take k xs in omega (arith, some, few)
 
 -- ---- a piece
@@ -102,85 +128,74 @@ has-come came piece i i' h a few =
     capped : (n m : ℕ) → m ≡ n → m ≤ MAX_MSG_TEXT → min n (2 ^ 64 - 1) ≡ m
     capped n m is few = omega arith
 
-module _ {R S : Type 0} (hs : List PlainHandle) (text : List ℕ) (f f' : View R) (t : View S) (on : IsOnWay hs text f t) (bytes : List ℕ) (fds : List ℤ) (n : ℕ × ℕ)
-    (some : 0 < length bytes) (out : HandsOut f.queue f'.queue bytes fds n) where
+module _ {R S : Type 0} (hs : List PlainHandle) (text : List ℕ) (f f' : View R) (t : View S) (on : IsOnWay hs text f t) (room : List ℕ) (fds : List ℤ) (n : ℕ × ℕ)
+    (some : 0 < length room) (out : HandsOut f.queue f'.queue room fds n) where
   -- nothing was to be sent, so there is no text
-  pub silent : (missing : Incoming → ℕ) → (text ≡ []) ⊎ IsTold text missing → length bytes ≤ missing t.incoming → n.0 ≡ 0 → (text ≡ []) × (i : Incoming) × (i.count ≡ 0) × (0 < missing i)
-  silent missing (inl none) few at = (none, t.incoming, nothing (on.whole ∙ none), long)
+  pub silent : (missing : Incoming → ℕ) → (text ≡ []) ⊎ IsTold text missing → length room ≤ missing t.incoming → n.0 ≡ 0 → (text ≡ []) × (i : Incoming) × (i.count ≡ 0) × (0 < missing i)
+  silent missing told few at = by told
     where
-      nothing : on.came ++ on.left ≡ [] → t.incoming.count ≡ 0
-      nothing is = let both : length on.came + length on.left ≡ 0 = sym (length-append on.came on.left) ∙ ap (λ (xs : List ℕ). length xs) is in let as-many : t.incoming.count ≡ length on.came = on.has.count in omega (arith, both, as-many)
+      all-came : t.came ≡ carrying hs text
+      all-came = sym (append-nil t.came) ∙ ap (λ cells. t.came ++ cells) (sym (out.end at)) ∙ on.whole
+
+      read : bytes t.came ≡ text
+      read = ap bytes all-came ∙ bytes-carried hs text
 
       long : 0 < missing t.incoming
       long = omega (arith, some, few)
-  silent missing (inr told) few at =
-      let there : missing t.incoming ≤ length on.left = (told on.came on.left t.incoming on.whole on.has).0 in
-      let nothing : length on.left ≡ 0 = ap (λ (xs : List ℕ). length xs) (none-carried hs on.left (sym on.queue ∙ out.end at)) in
-      absurd (omega (arith, some, few, there, nothing))
 
-  more : 0 < n.0 → 0 < length (take n.0 bytes)
-  more moved = some-of n.0 bytes moved some
+      by : (text ≡ []) ⊎ IsTold text missing → (text ≡ []) × (i : Incoming) × (i.count ≡ 0) × (0 < missing i)
+      by (inl none) = (none, t.incoming, on.has.count ∙ ap (λ (xs : List ℕ). length xs) (read ∙ none), long)
+      by (inr told) =
+          let there : missing t.incoming ≤ 0 = (told (bytes t.came) [] t.incoming (append-nil (bytes t.came) ∙ read) on.has).0 in
+          absurd (omega (arith, long, there))
 
-  front : 0 < n.0 → Splits on.left (take n.0 bytes) f'.queue × (out.handles ≡ hs)
-  front moved = carried-front hs out.handles (take n.0 bytes) on.left f'.queue (more moved) (sym on.queue ∙ out.piece)
+  more : 0 < n.0 → 0 < length (take n.0 room)
+  more moved = some-of n.0 room moved some
 
-  -- it brings descriptors
-  pub brought : 0 < n.0 → 0 < n.1 → has_some hs ≡ true
-  brought moved many = by hs (subst (λ k. 0 < k) (out.fd_count ∙ ap (λ (xs : List PlainHandle). length xs) (front moved).1) many)
-    where
-      by : (xs : List PlainHandle) → 0 < length xs → has_some xs ≡ true
-      by [] many = absurd (omega arith)
-      by (x ∷ xs) many = refl
+  -- the descriptors of a piece are some
+  piece-fds : 0 < n.0 → All IsFd out.handles
+  piece-fds moved = first-fds out.handles (take n.0 room) f'.queue (more moved) (subst AllFds out.piece (later-fds t.came f.queue (subst AllFds (sym on.whole) (carried-fds hs text on.fds))))
 
-  bare-hs : 0 < n.0 → n.1 ≤ 0 → hs ≡ []
-  bare-hs moved none = by hs (subst (λ k. k ≤ 0) (out.fd_count ∙ ap (λ (xs : List PlainHandle). length xs) (front moved).1) none)
-    where
-      by : (xs : List PlainHandle) → length xs ≤ 0 → xs ≡ []
-      by [] few = refl
-      by (x ∷ xs) few = absurd (omega arith)
+  pub named : (gone : List ℤ) → 0 < n.0 → gone ≡ take n.1 fds → map handle_in gone ≡ map Some out.handles
+  named gone moved same = ap (map handle_in) (same ∙ out.fds_at) ∙ named-again out.handles (piece-fds moved)
 
-  pub stepped : (missing : Incoming → ℕ) (t' : View S) (piece : List ℕ) (most : ℕ) → 0 < n.0 → n.1 ≤ 0 → Hands f f' → piece ≡ take n.0 bytes → Receives most piece [] t (Ok tt) t' → Steps missing hs text f t (Ok tt) f' t'
-  stepped missing t' piece most moved none hands same got =
-      let s : Splits on.left (take n.0 bytes) f'.queue = (front moved).0 in
-      let x : TakesIn piece [] t.came t'.came = got.1 in
-      let whole : (on.came ++ piece) ++ s.left ≡ text = append_assoc on.came piece s.left ∙ ap (λ xs. on.came ++ (xs ++ s.left)) same ∙ ap (λ xs. on.came ++ xs) (sym s.whole) ∙ on.whole in
-      let long : length ((on.came ++ piece) ++ s.left) ≡ length (on.came ++ piece) + length s.left = length-append (on.came ++ piece) s.left in
-      let all : length ((on.came ++ piece) ++ s.left) ≡ length text = ap (λ (xs : List ℕ). length xs) whole in
-      let short : length text ≤ MAX_MSG_TEXT = on.few in
-      let h : HasCome (on.came ++ piece) t'.incoming = has-come on.came piece t.incoming t'.incoming on.has got.2 (within (length ((on.came ++ piece) ++ s.left)) (length (on.came ++ piece)) (length s.left) (length text) long all short) in
-      let as-many : length piece ≡ length (take n.0 bytes) = ap (λ (xs : List ℕ). length xs) same in (
-        record {
-          came = on.came ++ piece;
-          left = s.left;
-          whole = whole;
-          few = on.few;
-          queue = s.is ∙ sym (carrying-none s.left) ∙ ap (λ xs. carrying xs s.left) (sym (bare-hs moved none));
-          arrived = x.got ∙ ap (λ cs. cs ++ carrying x.handles piece) on.arrived ∙ ap (λ xs. plain on.came ++ carrying xs piece) (bare x.handles x.of_fds) ∙ ap (λ cs. plain on.came ++ cs) (carrying-none piece) ∙ sym (plain-append PlainHandle on.came piece);
-          bare = inr (bare-hs moved none);
-          has = h;
-        },
-        grows (t.incoming.count) (t'.incoming.count) (length on.came) (length piece) (length (on.came ++ piece)) on.has.count h.count (length-append on.came piece) (subst (λ k. 0 < k) (sym as-many) (more moved)),
+  pub stepped : (missing : Incoming → ℕ) (t' : View S) (piece : List ℕ) (gone : List ℤ) (most : ℕ) → 0 < n.0 → Hands f f' → piece ≡ take n.0 room → gone ≡ take n.1 fds → Receives most piece gone t (Ok tt) t' → Steps missing hs text f t (Ok tt) f' t'
+  stepped missing t' piece gone most moved hands same same-fds got =
+      let x : TakesIn piece gone t.came t'.came = got.1 in
+      let handles : x.handles ≡ out.handles = same-handles x.handles out.handles (sym x.of_fds ∙ named gone moved same-fds) in
+      let came : t'.came ≡ t.came ++ carrying out.handles (take n.0 room) = x.got ∙ ap (λ ks. t.came ++ carrying ks piece) handles ∙ ap (λ bs. t.came ++ carrying out.handles bs) same in
+      let whole : t'.came ++ f'.queue ≡ carrying hs text = ap (λ cells. cells ++ f'.queue) came ∙ append_assoc t.came (carrying out.handles (take n.0 room)) f'.queue ∙ ap (λ cells. t.came ++ cells) (sym out.piece) ∙ on.whole in
+      let read : bytes t'.came ≡ bytes t.came ++ piece = ap bytes x.got ∙ bytes-append t.came (carrying x.handles piece) ∙ ap (λ bs. bytes t.came ++ bs) (bytes-carried x.handles piece) in
+      let all : bytes t'.came ++ bytes f'.queue ≡ text = sym (bytes-append t'.came f'.queue) ∙ ap bytes whole ∙ bytes-carried hs text in
+      let long : length (bytes t'.came ++ bytes f'.queue) ≡ length (bytes t'.came) + length (bytes f'.queue) = length-append (bytes t'.came) (bytes f'.queue) in
+      let few : length (bytes t.came ++ piece) ≤ MAX_MSG_TEXT =
+      within (length (bytes t'.came ++ bytes f'.queue)) (length (bytes t'.came)) (length (bytes f'.queue)) (length text) (length (bytes t.came ++ piece)) long (ap (λ (xs : List ℕ). length xs) all) on.few (ap (λ (xs : List ℕ). length xs) read) in
+      let has : HasCome (bytes t.came ++ piece) t'.incoming = has-come (bytes t.came) piece t.incoming t'.incoming on.has got.2 few in
+      let as-many : length piece ≡ length (take n.0 room) = ap (λ (xs : List ℕ). length xs) same in (
+        record { whole = whole; few = on.few; fds = on.fds; has = subst (λ bs. HasCome bs t'.incoming) (sym read) has },
+        grows (t.incoming.count) (t'.incoming.count) (length (bytes t.came)) (length piece) (length (bytes t.came ++ piece)) on.has.count has.count (length-append (bytes t.came) piece) (subst (λ k. 0 < k) (sym as-many) (more moved)),
         record { hands = hands; waits = got.3 },
       )
     where
-      within : (both a b all : ℕ) → both ≡ a + b → both ≡ all → all ≤ MAX_MSG_TEXT → a ≤ MAX_MSG_TEXT
-      within both a b all is same few = omega arith
+      within : (both a b all c : ℕ) → both ≡ a + b → both ≡ all → all ≤ MAX_MSG_TEXT → a ≡ c → c ≤ MAX_MSG_TEXT
+      within both a b all c is same few at = omega arith
 
       grows : (a b c p l : ℕ) → a ≡ c → b ≡ l → l ≡ c + p → 0 < p → a + 1 ≤ b
       grows a b c p l is is' long more = omega arith
 
--- a piece that is no longer than what is missing is taken unless memory is refused
-pub wants : (most : ℕ) (piece : List ℕ) (r : Refusal) → length piece ≤ most → TakesNone most piece [] r → r ≡ Protocol OutOfMemory
-wants most piece TooManyBytes few why = absurd (omega (arith, few, why))
-wants most piece (Protocol OutOfMemory) few why = refl
-wants most piece (Protocol InvalidParam) few (inl why) = absurd (let none : 0 < 0 = why.1 in omega (arith, none))
-wants most piece (Protocol InvalidParam) few (inr (inl many)) = absurd (omega (arith, many))
-wants most piece (Protocol InvalidParam) few (inr (inr among)) = absurd (nowhere among)
-  where
-    nowhere : {A : Type 0} {x : A} → Contains [] x → ⊥
-    nowhere among = absurd (omega (arith, among.1))
-wants most piece (Protocol _) few why = absurd why
-wants most piece _ few why = absurd why
+  -- a piece that is no longer than what is missing is taken unless memory is refused
+  pub wants : (most : ℕ) (piece : List ℕ) (gone : List ℤ) (r : Refusal) → 0 < n.0 → piece ≡ take n.0 room → gone ≡ take n.1 fds → length piece ≤ most → length gone ≤ MAX_ATTACHED_FD_ENTRIES → TakesNone most piece gone r → r ≡ Protocol OutOfMemory
+  wants most piece gone TooManyBytes moved same same-fds few few-fds why = absurd (omega (arith, few, why))
+  wants most piece gone (Protocol OutOfMemory) moved same same-fds few few-fds why = refl
+  wants most piece gone (Protocol InvalidParam) moved same same-fds few few-fds (inl why) =
+      let as-many : length piece ≡ length (take n.0 room) = ap (λ (xs : List ℕ). length xs) same in
+      let m : 0 < length (take n.0 room) = more moved in
+      let none : length piece ≡ 0 = why.0 in absurd (omega (arith, none, as-many, m))
+  wants most piece gone (Protocol InvalidParam) moved same same-fds few few-fds (inr (inl many)) = absurd (omega (arith, few-fds, many))
+  wants most piece gone (Protocol InvalidParam) moved same same-fds few few-fds (inr (inr among)) =
+      let none : There None = All-contains There (map Some out.handles) None (all-there out.handles) (subst (λ xs. Contains xs None) (named gone moved same-fds) among) in absurd (cc none)
+  wants most piece gone (Protocol _) moved same same-fds few few-fds why = absurd why
+  wants most piece gone _ moved same same-fds few few-fds why = absurd why
 
 -- there is room for a piece
 pub roomy : (bytes : List ℕ) (fds : List ℤ) (r : Refusal) → 0 < length bytes → MAX_ATTACHED_FD_ENTRIES ≤ length fds → HandsNone bytes fds r → ⊥
@@ -212,35 +227,34 @@ module _ {R S : Type 0} where
       further : (n m a b : ℕ) → m ≡ n + 1 → n ≤ a → a + 1 ≤ b → m ≤ b
       further n m a b is far more = omega arith
 
-  over : (missing : Incoming → ℕ) (hs : List PlainHandle) (text : List ℕ) (f f' : View R) (t t' : View S) (on : IsOnWay hs text f' t') → on.left ≡ [] → missing t'.incoming ≡ 0 → Moves f t f' t' → IsOver missing hs text f t f' t'
+  over : (missing : Incoming → ℕ) (hs : List PlainHandle) (text : List ℕ) (f f' : View R) (t t' : View S) (on : IsOnWay hs text f' t') → f'.queue ≡ [] → missing t'.incoming ≡ 0 → Moves f t f' t' → IsOver missing hs text f t f' t'
   over missing hs text f f' t t' on none is-zero moves =
-      let all : on.came ≡ text = sym (append-nil on.came) ∙ ap (λ xs. on.came ++ xs) (sym none) ∙ on.whole in
-      record {
-        queue = on.queue ∙ ap (carrying hs) none;
-        arrived = on.arrived ∙ ap plain all;
-        bare = ⊎_elim (λ empty. inl (sym all ∙ empty)) (λ none. inr none) on.bare;
-        has = subst (λ xs. HasCome xs t'.incoming) all on.has;
-        whole = is-zero;
-        moves = moves;
-      }
+      let all : t'.came ≡ carrying hs text = sym (append-nil t'.came) ∙ ap (λ cells. t'.came ++ cells) (sym none) ∙ on.whole in
+      record { queue = none; arrived = all; has = subst (λ bs. HasCome bs t'.incoming) (ap bytes all ∙ bytes-carried hs text) on.has; whole = is-zero; moves = moves }
+
+  -- the bytes of both parts are the text
+  halves : (hs : List PlainHandle) (text : List ℕ) (f : View R) (t : View S) → IsOnWay hs text f t → bytes t.came ++ bytes f.queue ≡ text
+  halves hs text f t on = sym (bytes-append t.came f.queue) ∙ ap bytes on.whole ∙ bytes-carried hs text
 
   -- where nothing is missing it came over
   pub told-over : (missing : Incoming → ℕ) (hs : List PlainHandle) (text : List ℕ) (f f' : View R) (t t' : View S) (n : ℕ) → (text ≡ []) ⊎ IsTold text missing → Came hs text f t n f' t' → missing t'.incoming ≡ 0 → IsOver missing hs text f t f' t'
-  told-over missing hs text f f' t t' n (inl none) c is-zero = over missing hs text f f' t t' c.on (behind c.on.came c.on.left (c.on.whole ∙ none)) is-zero c.moves
+  told-over missing hs text f f' t t' n (inl none) c is-zero = over missing hs text f f' t t' c.on (no-bytes f'.queue (behind (bytes t'.came) (bytes f'.queue) (halves hs text f' t' c.on ∙ none))) is-zero c.moves
     where
       behind : (xs ys : List ℕ) → xs ++ ys ≡ [] → ys ≡ []
       behind [] ys is = is
-      behind (x ∷ xs) ys is = absurd cc
-  told-over missing hs text f f' t t' n (inr told) c is-zero = over missing hs text f f' t t' c.on ((told c.on.came c.on.left t'.incoming c.on.whole c.on.has).1 is-zero) is-zero c.moves
+      behind (x ∷ xs) ys is = absurd (cc is)
+  told-over missing hs text f f' t t' n (inr told) c is-zero =
+      over missing hs text f f' t t' c.on (no-bytes f'.queue ((told (bytes t'.came) (bytes f'.queue) t'.incoming (halves hs text f' t' c.on) c.on.has).1 is-zero)) is-zero c.moves
 
   -- after as many pieces as a message may have bytes it did, too
   pub all-over : (missing : Incoming → ℕ) (hs : List PlainHandle) (text : List ℕ) (f f' : View R) (t t' : View S) (n : ℕ) → MAX_MSG_TEXT ≤ n → (text ≡ []) ⊎ IsTold text missing → Came hs text f t n f' t' → IsOver missing hs text f t f' t'
   all-over missing hs text f f' t t' n many told c =
       let on : IsOnWay hs text f' t' = c.on in
-      let long : length (on.came ++ on.left) ≡ length on.came + length on.left = length-append on.came on.left in
-      let all : length (on.came ++ on.left) ≡ length text = ap (λ (xs : List ℕ). length xs) on.whole in
-      let none : on.left ≡ [] = emptied on.left (spent n (t'.incoming.count) (length on.came) (length on.left) (length (on.came ++ on.left)) (length text) many c.far on.has.count long all on.few) in
-      over missing hs text f f' t t' on none (at-end on none told) c.moves
+      let long : length (bytes t'.came ++ bytes f'.queue) ≡ length (bytes t'.came) + length (bytes f'.queue) = length-append (bytes t'.came) (bytes f'.queue) in
+      let all : length (bytes t'.came ++ bytes f'.queue) ≡ length text = ap (λ (xs : List ℕ). length xs) (halves hs text f' t' on) in
+      let none : bytes f'.queue ≡ [] =
+      emptied (bytes f'.queue) (spent n (t'.incoming.count) (length (bytes t'.came)) (length (bytes f'.queue)) (length (bytes t'.came ++ bytes f'.queue)) (length text) many c.far on.has.count long all on.few) in
+      over missing hs text f f' t t' on (no-bytes f'.queue none) (at-end none told) c.moves
     where
       emptied : (xs : List ℕ) → length xs ≡ 0 → xs ≡ []
       emptied [] is = refl
@@ -252,15 +266,15 @@ module _ {R S : Type 0} where
       none-more : (k l : ℕ) → l ≡ 0 → k ≤ l → k ≡ 0
       none-more k l is few = omega arith
 
-      nothing : (on : IsOnWay hs text f' t') → text ≡ [] → length on.came ≡ 0
-      nothing on empty = sum (length on.came) (length on.left) (sym (length-append on.came on.left) ∙ ap (λ (xs : List ℕ). length xs) (on.whole ∙ empty))
+      nothing : text ≡ [] → length (bytes t'.came) ≡ 0
+      nothing empty = sum (length (bytes t'.came)) (length (bytes f'.queue)) (sym (length-append (bytes t'.came) (bytes f'.queue)) ∙ ap (λ (xs : List ℕ). length xs) (halves hs text f' t' c.on ∙ empty))
         where
           sum : (a b : ℕ) → a + b ≡ 0 → a ≡ 0
           sum a b is = omega arith
 
-      at-end : (on : IsOnWay hs text f' t') → on.left ≡ [] → (text ≡ []) ⊎ IsTold text missing → missing t'.incoming ≡ 0
-      at-end on none (inr told) = none-more (missing t'.incoming) (length on.left) (ap (λ (xs : List ℕ). length xs) none) (told on.came on.left t'.incoming on.whole on.has).0
-      at-end on none (inl empty) = absurd (far-off n (t'.incoming.count) (length on.came) many c.far on.has.count (nothing on empty))
+      at-end : bytes f'.queue ≡ [] → (text ≡ []) ⊎ IsTold text missing → missing t'.incoming ≡ 0
+      at-end none (inr told) = none-more (missing t'.incoming) (length (bytes f'.queue)) (ap (λ (xs : List ℕ). length xs) none) (told (bytes t'.came) (bytes f'.queue) t'.incoming (halves hs text f' t' c.on) c.on.has).0
+      at-end none (inl empty) = absurd (far-off n (t'.incoming.count) (length (bytes t'.came)) many c.far c.on.has.count (nothing empty))
         where
           far-off : (n a c : ℕ) → MAX_MSG_TEXT ≤ n → n ≤ a → a ≡ c → c ≡ 0 → ⊥
           far-off n a c many far is none = omega arith

@@ -18,7 +18,8 @@ use Rattle.vhost_c_backend.specs.Served as served
 use Rattle.vhost_c_backend.specs.Serving.{Channel, Display}
 use Rattle.vhost_c_backend.specs.declared.replies.Reply.{Reply}
 use Rattle.vhost_c_backend.specs.declared.served.Served.{Served}
-use Rattle.vhost_c.specs.Joined.{AllJoin, AreAllowed, AreInStep, InLockstep, Joins, UpTo, any_reply, opens, replies, steps_of}
+use Rattle.vhost_c.specs.Device.{opens, replies}
+use Rattle.vhost_c.specs.Joined.{AllJoin, AreAllowed, AreInStep, InLockstep, Joins, UpTo, any_opens, any_reply, steps_of}
 use Rattle.vhost_c.specs.Session as session
 use Rattle.vhost_c.specs.declared.session.Session.{Session}
 use Rattle.vhost_c.specs.declared.wire.Halt.{Halt}
@@ -35,13 +36,13 @@ Answered = List (Call × Result (Value PlainHandle) Error)
 -- ---- by some reply
 
 module _ (r : Reply) where
-  follows-any : (s : Memory) (x : Step PlainHandle Channel Display) (o : Outcome PlainHandle) → Follows (replies r) opens opens s tt x o tt → Follows any_reply opens opens s tt x o tt
+  follows-any : (s : Memory) (x : Step PlainHandle Channel Display) (o : Outcome PlainHandle) → Follows (replies r) (opens r) (opens r) s tt x o tt → Follows any_reply any_opens any_opens s tt x o tt
   follows-any s (Refused refusal) o f = f
   follows-any s (Calls c next) o f = (f.0, (r, f.1), f.2)
-  follows-any s (OpensBackend h next) o f = absurd f.1
-  follows-any s (OpensGpu h next) o f = absurd f.1
+  follows-any s (OpensBackend h next) o f = (f.0, (r, f.1), follows-any s (next f.0) o f.2)
+  follows-any s (OpensGpu h next) o f = (f.0, (r, f.1), follows-any s (next f.0) o f.2)
 
-  step-any : (f : Frontend) (s : Memory) (call : Call) (x : Asked PlainHandle) (shown : Shown PlainHandle) (f' : Frontend) (s' : Memory) → Exchanges (replies r) opens opens f s tt call x shown f' s' tt → Exchanges any_reply opens opens f s tt call x shown f' s' tt
+  step-any : (f : Frontend) (s : Memory) (call : Call) (x : Asked PlainHandle) (shown : Shown PlainHandle) (f' : Frontend) (s' : Memory) → Exchanges (replies r) (opens r) (opens r) f s tt call x shown f' s' tt → Exchanges any_reply any_opens any_opens f s tt call x shown f' s' tt
   step-any f s call (Refuses e) shown f' s' step = step
   step-any f s call (Answers v g) shown f' s' step = step
   step-any f s call (Sends w awaited g) shown f' s' (o, met, session-is, answer-is, request-is, handled-is, reply-is, last-is) =
@@ -54,7 +55,7 @@ module _ (bit : Bool) where
   record Run (steps : Steps) (f : Session) (b : Served) (f' : Session) (b' : Served) : Type 0 where
     answers : Answered
     of_calls : map (λ a. a.0) answers ≡ map (λ s. s.0) steps
-    run : JoinedRun any_reply opens opens (session.remembers f) (served.remembers b) tt answers (session.remembers f') (served.remembers b') tt
+    run : JoinedRun any_reply any_opens any_opens (session.remembers f) (served.remembers b) tt answers (session.remembers f') (served.remembers b') tt
     in_step : AreInStep bit f' b'
 
   runs : (steps : Steps) (f : Session) (b : Served) (f' : Session) (b' : Served) → AreInStep bit f b → AllJoin bit steps f b f' b' → Run steps f b f' b'

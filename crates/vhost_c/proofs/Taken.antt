@@ -20,7 +20,7 @@ use Rattle.vhost_c_common.proofs.Hearing.{hears-cut}
 use Rattle.vhost_c_common.proofs.Wants.{IsWant, list_away, by_link, broke_before, failed}
 use Rattle.vhost_c_common.specs.View.{End}
 use Rattle.vhost_c_common.specs.declared.refusal.Refusal.TheVariants.{Protocol}
-use Rattle.vhost_c.specs.Joined.{is_want}
+use Rattle.vhost_c.specs.Device.{is_want}
 
 abbrev Result1 : Type 0
 Result1 = Result (Value PlainHandle) Error

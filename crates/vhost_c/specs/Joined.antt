@@ -1,91 +1,37 @@
 -- A frontend's session and a backend's, joined: what the one hands out the other receives, in any pieces, and a device answers.
-use Rattle.std.specs.Prelude.{◌≡◌, ◌⊎◌, ◌<◌, ◌^◌, ℕ, All, Bool, true, false, List, [], ◌∷◌, ◌++◌, map, Some, None, Result, Ok, Err, ⊤, is_some, if◌then◌else◌}
+use Rattle.std.specs.Prelude.{◌≡◌, ℕ, All, Bool, true, false, List, [], ◌∷◌, ◌++◌, map, Some, None, Result, Ok, Err, ⊤, is_some}
 use Rattle.vhost_message.specs.Bits.{has_bit}
 use Rattle.vhost_message.specs.declared.frontend_req.FrontendReq.{FrontendReq}
-use Rattle.vhost_message.specs.declared.error.Error.TheVariants.{OutOfMemory, SocketRetry}
-use Rattle.vhost_message.specs.RecordLaws.{InflightFits}
 use Rattle.vhost_protocol.specs.Agreement.{Negotiates}
 use Rattle.vhost_protocol.specs.declared.profile.Profile.TheVariants.{Standard}
-use Rattle.vhost_protocol.specs.DeviceCall as device
 use Rattle.vhost_protocol.specs.DeviceCall.{Call, Answer}
 use Rattle.vhost_protocol.specs.Error.{Error, seen}
 use Rattle.vhost_protocol.specs.Features.{PROTOCOL_FEATURES}
-use Rattle.vhost_protocol.specs.FrontendCall.{FrontendCall, Frontend, GetFeatures, SetHdrFlags, Value, Nothing}
-use Rattle.vhost_protocol.specs.Ask.{Sends, ask}
+use Rattle.vhost_protocol.specs.FrontendCall.{FrontendCall, Frontend, GetFeatures, SetMemTable, SetLogBase, SetLogFd, SetVringCall, SetVringKick, SetVringErr, SetBackendRequestFd, SetInflightFd, AddMemRegion, SetDeviceStateFd, SetHdrFlags, Value, Nothing}
+use Rattle.vhost_protocol.specs.Ask.{Sends, ask, given_handle, handles_in}
 use Rattle.vhost_protocol.specs.declared.asked.Awaited.{Awaited}
-use Rattle.vhost_protocol.specs.Codes.{allows_handles}
 use Rattle.vhost_protocol.specs.Handler.{Meets}
 use Rattle.vhost_protocol.specs.Joined.{AgreeOn, Shown, JoinedStep, JoinedRun, read_as}
-use Rattle.vhost_protocol.specs.Served.{Replied}
-use Rattle.vhost_protocol.specs.Session.{heard_in}
-use Rattle.vhost_protocol.specs.Session.{Session as Memory}
-use Rattle.vhost_protocol.specs.Split.{split}
 use Rattle.vhost_protocol.specs.Step.{Outcome}
-use Rattle.vhost_protocol.specs.Stream.{has_some}
-use Rattle.vhost_protocol.specs.Written.{Payload, Written}
+use Rattle.vhost_protocol.specs.Written.{Written}
 use Rattle.vhost_link.specs.declared.plain.PlainHandle.{PlainHandle}
-use Rattle.vhost_serving_core.specs.Concluding.{Beside, answer_in}
-use Rattle.vhost_serving_core.specs.declared.answer.DeviceAnswer.{DeviceAnswer}
 use Rattle.vhost_serving.specs.Core as core
-use Rattle.vhost_serving.specs.Serving.{reply_cells}
 use Rattle.vhost_frontend_core.specs.Frontend as frontend
-use Rattle.vhost_frontend_core.specs.ValueHalves.{IsProper}
 use Rattle.vhost_frontend_core.specs.Values.{answer_of, call_of}
 use Rattle.vhost_frontend_core.specs.declared.values.call.FrontendCall as code
-use Rattle.vhost_c_common.specs.Records.{inflight_in}
 use Rattle.vhost_c_common.specs.declared.refusal.Refusal.{Refusal}
 use Rattle.vhost_c_common.specs.declared.refusal.Refusal.TheVariants.{Protocol}
-use Rattle.vhost_c_backend.specs.Replies.{fits, Gives, IsBad}
 use Rattle.vhost_c_backend.specs.Served as served
-use Rattle.vhost_c_backend.specs.Serving.{Channel, Display, Request, IsServed}
-use Rattle.vhost_c_backend.specs.declared.replies.Form.{Form}
-use Rattle.vhost_c_backend.specs.declared.replies.Form.TheVariants as form
+use Rattle.vhost_c_backend.specs.Serving.{Channel, Display}
 use Rattle.vhost_c_backend.specs.declared.replies.Reply.{Reply}
 use Rattle.vhost_c_backend.specs.declared.replies.Reply.TheVariants as reply
 use Rattle.vhost_c_backend.specs.declared.served.Served.{Served}
+use Rattle.vhost_c.specs.Device.{IsSized, is_want, opens, replies}
 use Rattle.vhost_c.specs.Session as session
+use Rattle.vhost_c.specs.Wire.{IsFd}
 use Rattle.vhost_c.specs.declared.session.Session.{Session}
 use Rattle.vhost_c.specs.declared.wire.Halt.{Halt}
 use Rattle.vhost_c.specs.declared.wire.Halt.TheVariants as halt
-
--- ---- the device
-
--- in which form a call is replied to
-abbrev pub form_of : Call PlainHandle Channel Display → Form
-form_of device.GetFeatures = form.Number
-form_of device.GetProtocolFeatures = form.Number
-form_of device.GetQueueNum = form.Number
-form_of device.GetMaxMemSlots = form.Number
-form_of (device.SetMemTable regions handles (Some listens)) = form.Table listens
-form_of (device.AddMemRegion region handle (Some listens)) = form.Region listens
-form_of (device.GetVringBase index) = form.Ring
-form_of (device.GetConfig offset size flags) = form.Config
-form_of (device.GetSharedObject name) = form.Fd
-form_of device.PostcopyAdvice = form.Fd
-form_of (device.SetDeviceStateFd transfer handle) = form.StateFd
-form_of (device.GetInflightFd area) = form.Inflight
-form_of device.GetShmemConfig = form.Shmem
-form_of _ = form.Done
-
--- What a reply answers to a call of this form. Where it has another form, or an argument that is not allowed, it is a refusal.
-abbrev pub Says : Form → Reply → DeviceAnswer PlainHandle → Type 0
-Says f r x = Gives f r x ⊎ (((fits f r ≡ false) ⊎ IsBad r) × Gives f reply.Refused x)
-
--- A device that answers any call by this reply.
-abbrev pub replies : Reply → ⊤ → (c : Call PlainHandle Channel Display) → Answer c → ⊤ → Type 0
-replies r d c a d' = (x : DeviceAnswer PlainHandle) × Says (form_of c) r x × (b : Beside) × (a ≡ answer_in b c x)
-
--- the numbers of a reply have the bits of their types
-abbrev pub IsSized : Reply → Type 0
-IsSized (reply.Number n) = n < 2 ^ 64
-IsSized (reply.Ring index n) = (index < 2 ^ 32) × (n < 2 ^ 32)
-IsSized (reply.Bases bases) = All (λ base. base < 2 ^ 64) bases.now
-IsSized (reply.Inflight area fd) = InflightFits (inflight_in area)
-IsSized _ = ⊤
-
--- it opens no channel, since its caller has the descriptors
-abbrev pub opens : {C : Type 0} → PlainHandle → Result C Error → Type 0
-opens h opened = ⊥
 
 -- ---- both sessions
 
@@ -107,11 +53,23 @@ abbrev pub Offers : Bool → FrontendCall PlainHandle → Reply → Type 0
 Offers bit GetFeatures (reply.Number n) = has_bit n PROTOCOL_FEATURES ≡ bit
 Offers bit _ _ = ⊤
 
--- memory was refused
-abbrev pub is_want : Refusal → Bool
-is_want (Protocol OutOfMemory) = true
-is_want (Protocol (SocketRetry c)) = true
-is_want _ = false
+-- the handles that a call gives
+abbrev pub handles_of : FrontendCall PlainHandle → List PlainHandle
+handles_of (SetMemTable infos) = handles_in infos
+handles_of (SetLogBase base (Some log)) = given_handle log.handle
+handles_of (SetLogFd h) = h ∷ []
+handles_of (SetVringCall index h) = given_handle h
+handles_of (SetVringKick index h) = given_handle h
+handles_of (SetVringErr index h) = given_handle h
+handles_of (SetBackendRequestFd h) = h ∷ []
+handles_of (SetInflightFd area h) = h ∷ []
+handles_of (AddMemRegion info) = given_handle info.handle
+handles_of (SetDeviceStateFd transfer h) = h ∷ []
+handles_of _ = []
+
+-- they are descriptors, as all are that C gives
+abbrev pub HasFds : FrontendCall PlainHandle → Type 0
+HasFds call = All IsFd (handles_of call)
 
 -- from a call on, requests are not sent as replies
 abbrev pub IsPlain : FrontendCall PlainHandle → Type 0
@@ -129,30 +87,20 @@ result_of call f (Ok done) result = result ≡ answer_to call f
 result_of call f (Err (Protocol e)) result = result ≡ Err (seen e)
 result_of call f (Err r) result = ⊥
 
--- an outcome that is no answer where memory was refused
-abbrev pub halted : {A : Type 0} → (Refusal → A) → Refusal → Result A Halt
-halted answers why = if is_want why then Err (halt.WantsMemory why) else Ok (answers why)
-
 -- The request of a call goes out, and this becomes of it by its row, whose call the device answers by this reply.
 pub record Meeting (call : FrontendCall PlainHandle) (r : Reply) (f : Session) (b : Served) (w : Written FrontendReq PlainHandle) (o : Outcome PlainHandle) : Type 0 where
   pub awaited : Awaited
   pub after : Frontend
   pub asked : ask (session.remembers f) call ≡ Sends w awaited after
-  pub meets : Meets (replies r) opens opens (served.remembers b) tt (read_as w) o tt
+  pub meets : Meets (replies r) (opens r) (opens r) (served.remembers b) tt (read_as w) o tt
 
--- A message of a call brings a descriptor: its request, or its reply.
-pub data Brings (call : FrontendCall PlainHandle) (r : Reply) (f : Session) (b : Served) : Type 0 where
-  request : (w : Written FrontendReq PlainHandle) (awaited : Awaited) (after : Frontend) → ask (session.remembers f) call ≡ Sends w awaited after → has_some w.handles ≡ true → Brings call r f b
-  replied : (w : Written FrontendReq PlainHandle) (o : Outcome PlainHandle) → Meeting call r f b w o → (payload : Payload) (hs : List PlainHandle) → o.served ≡ Replied payload hs → has_some hs ≡ true → Brings call r f b
-
--- What becomes of a call that a device answers so. It is a step of the protocol, of its own table, and both are in step again; or memory was refused, or a descriptor was to go over, or the backend's session has ended by its row. No answer is waited for in vain.
+-- What becomes of a call that a device answers so. It is a step of the protocol, of its own table, with the descriptors that go with its messages, and both are in step again; or memory was refused, or the backend's session has ended by its row. No answer is waited for in vain.
 abbrev pub Joins : Bool → FrontendCall PlainHandle → Reply → Session → Served → Result (Result ⊤ Refusal) Halt → Session → Served → Type 0
 Joins bit call r f b (Ok outcome) f' b' =
-    (shown : Shown PlainHandle) × JoinedStep (replies r) opens opens (session.remembers f) (served.remembers b) tt call shown (session.remembers f') (served.remembers b') tt
+    (shown : Shown PlainHandle) × JoinedStep (replies r) (opens r) (opens r) (session.remembers f) (served.remembers b) tt call shown (session.remembers f') (served.remembers b') tt
     × result_of call f' outcome shown.result × (shown.last ≡ false) × AreInStep bit f' b'
 Joins bit call r f b (Err (halt.WantsMemory why)) f' b' = is_want why ≡ true
 Joins bit call r f b (Err halt.Silent) f' b' = ⊥
-Joins bit call r f b (Err halt.Descriptors) f' b' = Brings call r f b
 Joins bit call r f b (Err halt.Ended) f' b' = (w : Written FrontendReq PlainHandle) × (o : Outcome PlainHandle) × Meeting call r f b w o × (served.remembers b' ≡ o.session) × (is_some (served.remembers b').failed ≡ true)
 
 -- ---- many calls
@@ -162,10 +110,10 @@ abbrev pub steps_of : List code.FrontendCall → List Reply → List (FrontendCa
 steps_of (c ∷ cs) (r ∷ rs) = (call_of c, r) ∷ steps_of cs rs
 steps_of _ _ = []
 
--- Requests are not sent as replies, and each call is made of what its types hold. No reply offers other features than the bit says.
+-- Requests are not sent as replies, and the handles of each call are descriptors. No reply offers other features than the bit says.
 abbrev pub AreAllowed : Bool → List (FrontendCall PlainHandle × Reply) → Type 0
 AreAllowed bit [] = ⊤
-AreAllowed bit (step ∷ steps) = IsPlain step.0 × IsProper step.0 × IsSized step.1 × Offers bit step.0 step.1 × AreAllowed bit steps
+AreAllowed bit (step ∷ steps) = IsPlain step.0 × HasFds step.0 × IsSized step.1 × Offers bit step.0 step.1 × AreAllowed bit steps
 
 -- calls one after another, each of which is done
 abbrev pub AllJoin : Bool → List (FrontendCall PlainHandle × Reply) → Session → Served → Session → Served → Type 0
@@ -176,12 +124,16 @@ AllJoin bit (step ∷ steps) f b f' b' = (g : Session) × (t : Served) × (outco
 abbrev pub any_reply : ⊤ → (c : Call PlainHandle Channel Display) → Answer c → ⊤ → Type 0
 any_reply d c a d' = (r : Reply) × replies r d c a d'
 
+-- the same of a channel
+abbrev pub any_opens : {C : Type 0} → PlainHandle → Result C Error → Type 0
+any_opens h opened = (r : Reply) × opens r h opened
+
 -- They are a joined run of the protocol, in lockstep, with these answers; and both are in step again.
 pub record InLockstep (bit : Bool) (steps : List (FrontendCall PlainHandle × Reply)) (f : Session) (b : Served) (f' : Session) (b' : Served) : Type 0 where
   pub each : AllJoin bit steps f b f' b'
   pub answers : List (FrontendCall PlainHandle × Result (Value PlainHandle) Error)
   pub of_calls : map (λ a. a.0) answers ≡ map (λ s. s.0) steps
-  pub run : JoinedRun any_reply opens opens (session.remembers f) (served.remembers b) tt answers (session.remembers f') (served.remembers b') tt
+  pub run : JoinedRun any_reply any_opens any_opens (session.remembers f) (served.remembers b) tt answers (session.remembers f') (served.remembers b') tt
   pub in_step : AreInStep bit f' b'
 
 -- The calls before one that was not done.
@@ -206,41 +158,3 @@ pub record JoinsNew (bit : Bool) (max_queue_num : ℕ) (steps : List (FrontendCa
   pub back : Served
   pub fresh : session.IsNew max_queue_num front × served.IsNew back
   pub lockstep : InLockstep bit steps front back f' b'
-
--- ---- the backend alone
-
--- Exactly this message came, without descriptors, and nothing is to be sent; nothing broke the session, and it has not ended.
-pub record IsDue (m : Request) (s : Served) : Type 0 where
-  pub came : split (heard_in (served.remembers s)) allows_handles (served.arrived s) ≡ (Ok m, [])
-  pub whole : served.missing_of s ≡ 0
-  pub bare : m.handles ≡ []
-  pub idle : served.has_call s ≡ false
-  pub goes_on : (served.remembers s).failed ≡ None
-  pub queue : served.queued s ≡ []
-  pub sound : ((core.endpoint_of s.core).broken ≡ None) × ((core.endpoint_of s.core).link.script ≡ [])
-
--- It was read, and its call is to be answered.
-pub record IsOpen (m : Request) (s : Served) : Type 0 where
-  pub read : IsServed m s
-  pub bare : m.handles ≡ []
-  pub came : served.arrived s ≡ []
-  pub count : s.incoming.count ≡ 0
-  pub queue : served.queued s ≡ []
-  pub sound : ((core.endpoint_of s.core).broken ≡ None) × ((core.endpoint_of s.core).link.script ≡ [])
-
--- It met its row, by a device that answers by this reply; what became of it is to be sent, and nothing waits.
-pub record IsMet (m : Request) (r : Reply) (before : Memory) (new : Served) : Type 0 where
-  pub outcome : Outcome PlainHandle
-  pub meets : Meets (replies r) opens opens before tt m outcome tt
-  pub memory : served.remembers new ≡ outcome.session
-  pub queue : served.queued new ≡ reply_cells m.request outcome.served
-  pub came : served.arrived new ≡ []
-  pub idle : served.has_call new ≡ false
-  pub count : new.incoming.count ≡ 0
-  pub sound : ((core.endpoint_of new.core).broken ≡ None) × ((core.endpoint_of new.core).link.script ≡ [])
-
--- it did; or memory was refused
-abbrev pub Serves : Request → Reply → Memory → Result ⊤ Halt → Served → Type 0
-Serves m r before (Ok done) new = IsMet m r before new
-Serves m r before (Err (halt.WantsMemory why)) new = is_want why ≡ true
-Serves m r before (Err _) new = ⊥

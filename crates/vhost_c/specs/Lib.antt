@@ -3,6 +3,7 @@ pub mod Awaiting
 pub mod Backend
 pub mod Channel
 pub mod Clients
+pub mod Device
 pub mod Display
 pub mod Holder
 pub mod Incoming

@@ -3,9 +3,10 @@
 ghost use Rattle.std.specs.Prelude.{◌≡◌, ℕ, Bool, true, false, IfOk};
 ghost use Rattle.vhost_protocol.specs.FrontendCall.{SetHdrFlags};
 ghost use Rattle.vhost_frontend_core.specs.Values.{call_of};
-ghost use Rattle.vhost_frontend_core.specs.ValueHalves.{IsSent, IsProper};
+ghost use Rattle.vhost_frontend_core.specs.ValueHalves.{IsSent};
 ghost use Rattle.vhost_c_backend.specs.Serving.{Request};
-ghost use Rattle.vhost_c.specs.Joined.{AreAllowed, AreInStep, IsPlain, Offers, Joins, JoinsAll, JoinsNew, steps_of, IsSized, IsDue, IsOpen, Serves, halted, is_want};
+ghost use Rattle.vhost_c.specs.Device.{IsSized, IsDue, IsOpen, Serves, halted, is_want};
+ghost use Rattle.vhost_c.specs.Joined.{AreAllowed, AreInStep, HasFds, IsPlain, Offers, Joins, JoinsAll, JoinsNew, steps_of};
 ghost use Rattle.vhost_c_backend.specs.Served.{remembers};
 
 use crate::session::Session;
@@ -21,7 +22,8 @@ use vhost_message::Error;
 type Outcome<T> = std::result::Result<T, Refusal>;
 
 /// A call of a frontend: its request goes to the backend, whose device answers by this reply, and the answer comes back. Both go
-/// in pieces of at most these lengths. What it was answered is kept by the frontend's session where it is no error.
+/// with their descriptors, in pieces of at most these lengths. What it was answered is kept by the frontend's session where it is
+/// no error.
 ///
 /// Each end is a `Halt`.
 pub fn joined_call(
@@ -31,7 +33,7 @@ pub fn joined_call(
     reply: Reply<'_>,
     cuts: &[usize],
 ) -> Result<Outcome<()>, Halt>
-    ensures { (bit : Bool) → AreInStep bit front.old back.old → IsPlain (call_of call) → IsProper (call_of call) → IsSized reply.entry → Offers bit (call_of call) reply.entry
+    ensures { (bit : Bool) → AreInStep bit front.old back.old → IsPlain (call_of call) → HasFds (call_of call) → IsSized reply.entry → Offers bit (call_of call) reply.entry
         → Joins bit (call_of call) reply.entry front.old back.old result front.new back.new }
 {
     if is_sent(&call) {
@@ -64,7 +66,7 @@ fn joined_sent(
     reply: Reply<'_>,
     cuts: &[usize],
 ) -> Result<Outcome<()>, Halt>
-    ensures { (bit : Bool) → AreInStep bit front.old back.old → IsSent (call_of call) → IsProper (call_of call) → IsSized reply.entry → Offers bit (call_of call) reply.entry
+    ensures { (bit : Bool) → AreInStep bit front.old back.old → IsSent (call_of call) → HasFds (call_of call) → IsSized reply.entry → Offers bit (call_of call) reply.entry
         → Joins bit (call_of call) reply.entry front.old back.old result front.new back.new }
 {
     match front.ask(call) {

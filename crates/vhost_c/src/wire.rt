@@ -1,4 +1,4 @@
-//! A message goes from one session to another, in pieces.
+//! A message goes from one session to another, in pieces, with its descriptors on the first.
 
 ghost use Rattle.std.specs.Prelude.{◌≡◌, ◌⊎◌, [], ◌<◌, ◌≤◌, ℕ, List, false, length};
 ghost use Rattle.vhost_protocol.specs.Session.{heard_in};
@@ -20,8 +20,6 @@ pub(crate) enum Halt {
     WantsMemory(Refusal),
     /// Bytes are missing of an answer, and none is to be sent.
     Silent,
-    /// A message brings a file descriptor, which goes another way than its bytes.
-    Descriptors,
     /// The backend's session has ended, since it could not answer whoever waits.
     Ended,
 }
@@ -29,7 +27,7 @@ pub(crate) enum Halt {
 /// The request of a frontend goes to a backend, in pieces of at most these lengths, one after another, and then of what is
 /// missing.
 ///
-/// WantsMemory: an allocation failed. Descriptors: it brings some. Silent: there is none, and bytes are missing.
+/// WantsMemory: an allocation failed. Silent: there is none, and bytes are missing.
 pub(crate) fn carry_request(from: &mut Session, to: &mut Served, cuts: &[usize]) -> Result<(), Halt>
     ensures { (hs : List PlainHandle) (text : List ℕ) → (text ≡ []) ⊎ IsTold text (missing_by (heard_in (served.remembers to.old))) → served.has_call to.old ≡ false → IsOnWay hs text (session.view from.old) (served.view to.old)
         → Carries (missing_by (heard_in (served.remembers to.old))) hs text (session.view from.old) (served.view to.old) result (session.view from.new) (served.view to.new) }
@@ -62,11 +60,9 @@ fn request_piece(from: &mut Session, to: &mut Served, bytes: &mut [u8]) -> Resul
             if count == 0 {
                 return Err(Halt::Silent);
             }
-            if fd_count > 0 {
-                return Err(Halt::Descriptors);
-            }
             let count = count.min(bytes.len());
-            match to.receive(&bytes[..count], &[]) {
+            let fd_count = fd_count.min(MAX_ATTACHED_FD_ENTRIES);
+            match to.receive(&bytes[..count], &fds[..fd_count]) {
                 Ok(()) => Ok(()),
                 Err(refusal) => Err(Halt::WantsMemory(refusal)),
             }
@@ -77,7 +73,7 @@ fn request_piece(from: &mut Session, to: &mut Served, bytes: &mut [u8]) -> Resul
 
 /// The reply of a backend goes to a frontend, in such pieces.
 ///
-/// WantsMemory: an allocation failed. Descriptors: it brings some. Silent: there is none, and bytes are missing.
+/// WantsMemory: an allocation failed. Silent: there is none, and bytes are missing.
 pub(crate) fn carry_reply(from: &mut Served, to: &mut Session, cuts: &[usize]) -> Result<(), Halt>
     ensures { (hs : List PlainHandle) (text : List ℕ) → (text ≡ []) ⊎ IsTold text (session.missing_for (session.remembers to.old).profile to.old.asked) → IsOnWay hs text (served.view from.old) (session.view to.old)
         → Carries (session.missing_for (session.remembers to.old).profile to.old.asked) hs text (served.view from.old) (session.view to.old) result (served.view from.new) (session.view to.new) }
@@ -106,15 +102,13 @@ fn reply_piece(from: &mut Served, to: &mut Session, bytes: &mut [u8]) -> Result<
 {
     let mut fds = [0; MAX_ATTACHED_FD_ENTRIES];
     match from.hand_out(bytes, &mut fds) {
-        Ok((count, fd_count)) => {
+        Ok((count, fd_number)) => {
             if count == 0 {
                 return Err(Halt::Silent);
             }
-            if fd_count > 0 {
-                return Err(Halt::Descriptors);
-            }
             let count = count.min(bytes.len());
-            match to.receive(&bytes[..count], &[]) {
+            let fd_number = fd_number.min(MAX_ATTACHED_FD_ENTRIES);
+            match to.receive(&bytes[..count], &fds[..fd_number]) {
                 Ok(()) => Ok(()),
                 Err(refusal) => Err(Halt::WantsMemory(refusal)),
             }

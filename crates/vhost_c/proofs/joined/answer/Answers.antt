@@ -2,7 +2,7 @@
 use Rattle.std.proofs.Common.{Result, sym, subst}
 use Rattle.std.specs.Prelude.{⊤}
 use Rattle.vhost_c_backend.specs.Served.{remembers}
-use Rattle.vhost_c.specs.Joined.{Serves}
+use Rattle.vhost_c.specs.Device.{Serves}
 use Rattle.vhost_c.specs.declared.wire.Halt.{Halt}
 use Rattle.vhost_c.proofs.Answering.{first-ok, then-refused, goes-on}
 use Rattle.vhost_c.proofs.joined.answer.Goals as goal

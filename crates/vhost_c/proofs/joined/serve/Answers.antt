@@ -3,7 +3,7 @@ use Rattle.std.proofs.Common.{Result, sym, subst}
 use Rattle.std.specs.Prelude.{⊤}
 use Rattle.vhost_protocol.specs.Session.{Session}
 use Rattle.vhost_c_backend.specs.Served.{remembers}
-use Rattle.vhost_c.specs.Joined.{Serves}
+use Rattle.vhost_c.specs.Device.{Serves}
 use Rattle.vhost_c.specs.declared.wire.Halt.{Halt}
 use Rattle.vhost_c.proofs.Denying.{opened, denied}
 use Rattle.vhost_c.proofs.joined.serve.Goals as goal

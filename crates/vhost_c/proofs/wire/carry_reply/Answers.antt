@@ -26,7 +26,7 @@ returns-then-missing-eq0 c hs text told on =
 pub returns-in-Err : goal.returns-in-Err
 returns-in-Err c hs text told on =
     let so = c.pieces.invariant.coming hs text told on in
-    subst {A = Kept} (λ k. Stops (session.missing_for k.0.profile k.1) hs text c.in-Err.halt) so.moves.waits.rest
+    subst {A = Kept} (λ k. Stops (session.missing_for k.0.profile k.1) text c.in-Err.halt) so.moves.waits.rest
     (c.in-Err.ensures hs text (told-same text c.args.to.now c.pieces.to so.moves.waits.rest told) so.on)
 
 pub pieces-preserved : goal.pieces-preserved

@@ -37,7 +37,7 @@ returns-then-missing-eq0 c hs text told idle on =
 pub returns-in-Err : goal.returns-in-Err
 returns-in-Err c hs text told idle on =
     let so = c.pieces.invariant.coming hs text told idle on in
-    subst {A = Session} (λ k. Stops (missing_by (heard_in k)) hs text c.in-Err.halt) (memory-same c.args.to.now c.pieces.to so.moves.waits.rest)
+    subst {A = Session} (λ k. Stops (missing_by (heard_in k)) text c.in-Err.halt) (memory-same c.args.to.now c.pieces.to so.moves.waits.rest)
     (c.in-Err.ensures hs text (told-same text c.args.to.now c.pieces.to so.moves.waits.rest told) (idle-same c.args.to.now c.pieces.to so.moves.waits.rest idle) so.on)
 
 pub pieces-preserved : goal.pieces-preserved
