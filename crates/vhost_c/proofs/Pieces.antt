@@ -116,7 +116,7 @@ take-few k m xs few = let some : length (take k xs) ≡ min k (length xs) = leng
 
 -- ---- a piece
 
-has-come : (came piece : List ℕ) (i i' : Incoming) → HasCome came i → Adds piece i i' → length (came ++ piece) ≤ MAX_MSG_TEXT → HasCome (came ++ piece) i'
+pub has-come : (came piece : List ℕ) (i i' : Incoming) → HasCome came i → Adds piece i i' → length (came ++ piece) ≤ MAX_MSG_TEXT → HasCome (came ++ piece) i'
 has-come came piece i i' h a few =
     let long : length (came ++ piece) ≡ length came + length piece = length-append came piece in
     let at : i.count ≡ length came = h.count in

@@ -48,7 +48,7 @@ module _ (w : Written FrontendReq PlainHandle) (known : request_number w.request
       let few : size < 2 ^ 32 = omega (arith, small) in
       header-more (header_text head) (payload_text w.payload) (omega arith) ∙ header-read head known (flags-small w.reply w.need_reply) few
 
-  text-long : length (written_text request_number w) ≡ 12 + size
+  pub text-long : length (written_text request_number w) ≡ 12 + size
   text-long = length-append (header_text head) (payload_text w.payload)
 
   pub valid-head : is_valid_header head ≡ true
@@ -86,7 +86,7 @@ module _ (w : Written FrontendReq PlainHandle) (known : request_number w.request
   rest code i = if is_some (announced code (header_of i.head)) then 12 + (header_of i.head).size - i.count else 0
 
   -- behind the header it is what that announces
-  behind : (code : ℕ → Option FrontendReq) → is_some (announced code head) ≡ true → (i : Incoming) → 12 ≤ i.count → header_of i.head ≡ head → missing_by code i ≡ 12 + size - i.count
+  pub behind : (code : ℕ → Option FrontendReq) → is_some (announced code head) ≡ true → (i : Incoming) → 12 ≤ i.count → header_of i.head ≡ head → missing_by code i ≡ 12 + size - i.count
   behind code heard i many is =
       ap (λ b. if b then 12 - i.count else rest code i) (le-ltb i.count 12 many)
       ∙ ap {A = Header} (λ h. if is_some (announced code h) then 12 + h.size - i.count else 0) is

@@ -158,7 +158,7 @@ fn serve(back: &mut Served, reply: Reply<'_>) -> Result<(), Halt>
 
 /// Answers the call that is to be answered. Where the reply was no answer, the call is still open, and is refused; else there is
 /// none.
-fn answer(back: &mut Served, reply: Reply<'_>) -> Result<(), Halt>
+pub(crate) fn answer(back: &mut Served, reply: Reply<'_>) -> Result<(), Halt>
     ensures { (m : Request) → IsOpen m back.old → Serves m reply.entry (remembers back.old) result back.new }
 {
     match back.reply(reply) {
@@ -184,7 +184,7 @@ fn of_refusal(refusal: Refusal) -> Result<Outcome<()>, Halt>
 }
 
 /// Goes on, unless memory was refused.
-fn unless_want(refusal: Refusal) -> Result<(), Halt>
+pub(crate) fn unless_want(refusal: Refusal) -> Result<(), Halt>
     ensures { result ≡ halted (λ why. tt) refusal }
 {
     if wants_memory(&refusal) {
