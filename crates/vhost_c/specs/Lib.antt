@@ -9,6 +9,7 @@ pub mod Holder
 pub mod Incoming
 pub mod Program
 pub mod Joined
+pub mod Judged
 pub mod Records
 pub mod Session
 pub mod Names

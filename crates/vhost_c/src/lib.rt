@@ -31,6 +31,7 @@ mod fd_asks;
 mod holder;
 mod incoming;
 mod joined;
+mod judged;
 mod loose;
 mod moving;
 mod opening;
