@@ -245,6 +245,23 @@ enum covretin_error covretin_receive(covretin_session *session, const uint8_t *b
  * still be in the socket. */
 enum covretin_error covretin_take(covretin_session *session);
 
+/* -- Descriptors that came -------------------------------------------------------------------------------------------
+ * A session keeps the numbers of those that came, so that each is claimed once or handed out once, and none other is. It never touches
+ * the descriptors themselves. */
+
+/* Claims a descriptor of the reply that was taken last: it came with its first byte, as covretin_answer_fd names it, and is to be kept.
+ * That can be done until the next call is asked. NO_SESSION; OTHER_ANSWER: a reply is still to be taken, or none of its descriptors has
+ * this number that was not claimed. After an error nothing changed. */
+enum covretin_error covretin_claim(covretin_session *session, int32_t fd);
+
+/* Hands out descriptors that nobody will claim, to be closed: *count of them to the start of fds. They are those that came behind a
+ * reply's first byte, those of a reply that was refused, and, once the next call is asked, those that were not claimed. Call it then,
+ * until *count is 0; len is 1 at least. NO_SESSION: *count was not written. */
+enum covretin_error covretin_unclaimed(covretin_session *session, int32_t *fds, size_t len, size_t *count);
+
+/* Nobody will claim what came: the socket ended amid a reply, or the last one is done with. NO_SESSION. */
+enum covretin_error covretin_abandon(covretin_session *session);
+
 /* -- The reply that was taken last ----------------------------------------------------------------------------------
  * It can be read until the next covretin_take. NO_SESSION; OTHER_ANSWER; NO_ROOM. After an error nothing was written. */
 

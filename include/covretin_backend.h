@@ -158,6 +158,24 @@ enum covretin_error covretin_backend_end(covretin_backend *backend);
 enum covretin_error covretin_backend_to_send(covretin_backend *backend, uint8_t *bytes, size_t bytes_len, int32_t *fds,
                                  size_t fds_len, size_t *byte_count, size_t *fd_count);
 
+/* -- Descriptors ----------------------------------------------------------------------------------------------------
+ * A session keeps the numbers of those that came, so that each is claimed once or handed out once, and none other is. It never touches
+ * the descriptors themselves. */
+
+/* Claims a descriptor of the call that is to be replied to: it came with the first byte of its request, as covretin_call_.. names it, and is to be
+ * kept. NO_SESSION; OTHER_CALL: no call is to be replied to, or none of its descriptors has this number that was not claimed. After
+ * an error nothing changed. */
+enum covretin_error covretin_backend_claim(covretin_backend *backend, int32_t fd);
+
+/* Hands out descriptors that nobody will claim, to be closed: *count of them to the start of fds. They are those that came behind a
+ * request's first byte, and those of a request that was refused or replied to that were not claimed. Call it after each request, until
+ * *count is 0; len is 1 at least. NO_SESSION: *count was not written. */
+enum covretin_error covretin_backend_unclaimed(covretin_backend *backend, int32_t *fds, size_t len, size_t *count);
+
+/* The socket ended amid a request, whose rest will never come: nobody will claim what came with it. A call that is to be replied to
+ * keeps its own. NO_SESSION. */
+enum covretin_error covretin_backend_abandon(covretin_backend *backend);
+
 /* -- Requests ------------------------------------------------------------------------------------------------------ */
 
 /* Checks the request that came. 0: *call says what is asked of the device, which is to be replied to before anything else.

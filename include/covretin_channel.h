@@ -115,6 +115,11 @@ enum covretin_error covretin_channel_receive(covretin_channel *channel, const ui
  * reply may still be in the socket. */
 enum covretin_error covretin_channel_take(covretin_channel *channel);
 
+/* Hands out descriptors that came, to be closed: *count of them to the start of fds. A reply has none that anybody may keep. Call it
+ * after each reply, until *count is 0; len is 1 at least. Each number that came is handed out once, and none other is. NO_SESSION:
+ * *count was not written. */
+enum covretin_error covretin_channel_unclaimed(covretin_channel *channel, int32_t *fds, size_t len, size_t *count);
+
 /* -- Asks -----------------------------------------------------------------------------------------------------------
  * Each makes its request, which covretin_channel_to_send then hands out. After an error nothing more is to be sent than before.
  * All may return NO_SESSION, NOT_TAKEN, OUT_OF_MEMORY, SOCKET_RETRY, SOCKET_BROKEN, INVALID_PARAM for an argument, and
@@ -186,6 +191,24 @@ enum covretin_error covretin_channel_server_end(covretin_channel_server *server)
 /* Hands out what is to be sent, as covretin_channel_to_send does. */
 enum covretin_error covretin_channel_server_to_send(covretin_channel_server *server, uint8_t *bytes, size_t bytes_len, int32_t *fds,
                                         size_t fds_len, size_t *byte_count, size_t *fd_count);
+
+/* -- Descriptors ----------------------------------------------------------------------------------------------------
+ * A session keeps the numbers of those that came, so that each is claimed once or handed out once, and none other is. It never touches
+ * the descriptors themselves. */
+
+/* Claims a descriptor of the call that is to be replied to: it came with the first byte of its request, as covretin_channel_call_fd names it, and is to be
+ * kept. NO_SESSION; OTHER_CALL: no call is to be replied to, or none of its descriptors has this number that was not claimed. After
+ * an error nothing changed. */
+enum covretin_error covretin_channel_server_claim(covretin_channel_server *server, int32_t fd);
+
+/* Hands out descriptors that nobody will claim, to be closed: *count of them to the start of fds. They are those that came behind a
+ * request's first byte, and those of a request that was refused or replied to that were not claimed. Call it after each request, until
+ * *count is 0; len is 1 at least. NO_SESSION: *count was not written. */
+enum covretin_error covretin_channel_server_unclaimed(covretin_channel_server *server, int32_t *fds, size_t len, size_t *count);
+
+/* The socket ended amid a request, whose rest will never come: nobody will claim what came with it. A call that is to be replied to
+ * keeps its own. NO_SESSION. */
+enum covretin_error covretin_channel_server_abandon(covretin_channel_server *server);
 
 /* -- Requests ------------------------------------------------------------------------------------------------------ */
 

@@ -135,6 +135,11 @@ size_t covretin_display_missing(covretin_display *display);
 enum covretin_error covretin_display_receive(covretin_display *display, const uint8_t *bytes, size_t bytes_len, const int32_t *fds,
                                  size_t fds_len);
 
+/* Hands out descriptors that came, to be closed: *count of them to the start of fds. A reply has none that anybody may keep. Call it
+ * after each reply, until *count is 0; len is 1 at least. Each number that came is handed out once, and none other is. NO_SESSION:
+ * *count was not written. */
+enum covretin_error covretin_display_unclaimed(covretin_display *display, int32_t *fds, size_t len, size_t *count);
+
 /* -- Replies -------------------------------------------------------------------------------------------------------
  * Each takes the reply of the call that was asked, by its form. NO_SESSION, NOTHING_ASKED, NOT_YET; OTHER_ANSWER: the reply of this
  * call has another form; NO_ROOM: record_len is too small. After these nothing changed. After all others nothing is asked any

@@ -106,6 +106,11 @@ RELATIONS = {
         f"NO_SESSION NOTHING_ASKED {SHORT}",
         "after NO_SESSION and NOTHING_ASKED nothing changed; after others no call is to be replied to",
     ),
+    "frontend Claiming": ("NO_SESSION OTHER_ANSWER", NOTHING),
+    "backend Claiming": ("NO_SESSION OTHER_CALL", NOTHING),
+    "channel's server Claiming": ("NO_SESSION OTHER_CALL", NOTHING),
+    "LettingGo": ("NO_SESSION", NOTHING),
+    "Abandoning": ("NO_SESSION", NOTHING),
     "RefusesRecovery": ("INVALID_INFLIGHT NO_ROOM OUT_OF_MEMORY", "the places are as before"),
 }
 

@@ -98,8 +98,8 @@ refuses call s s' _ (fails {e = e} why-not lasting) stays = record { named = why
 
 asks : (call : code-call.FrontendCall) {n : ℕ} {old new : Option Session} → By (Asking (call_of call)) old n new → Promises (Ask call) n old new
 asks call by.none = absent (Ask call) refl none
-asks call (by.some {s = s} {s' = t} {outcome = Ok done} (becomes, notes)) = record { named = refl; leaves = λ refused. absurd (refused refl); sound = λ harmless was. asks-sound (call_of call) s t becomes ∙ was }
-asks call (by.some {s = s} {s' = t} {outcome = Err r} ((why-not, stays), notes)) = refuses call s t r why-not stays
+asks call (by.some {s = s} {s' = t} {outcome = Ok done} (becomes, notes, drops)) = record { named = refl; leaves = λ refused. absurd (refused refl); sound = λ harmless was. asks-sound (call_of call) s t becomes ∙ was }
+asks call (by.some {s = s} {s' = t} {outcome = Err r} ((why-not, stays), notes, drops)) = refuses call s t r why-not stays
 
 -- where nothing changed but which feature was not active
 stays : (old new : Session) → KeepsAll old new → Stays old new

@@ -1,5 +1,5 @@
 -- What the calls of a session do.
-use Rattle.std.specs.Prelude.{◌≡◌, ◌<◌, ◌≤◌, ℕ, ℤ, Bool, true, false, ◌||◌, ◌==◌, List, [], ◌++◌, length, Option, Some, None, Result, Ok, Err, ⊤, is_some}
+use Rattle.std.specs.Prelude.{◌≡◌, ◌<◌, ◌≤◌, ℕ, ℤ, Bool, true, false, ◌||◌, ◌==◌, List, [], ◌++◌, length, Contains, Option, Some, None, Result, Ok, Err, ⊤, is_some}
 use Rattle.vhost_message.specs.declared.error.Error as declared
 use Rattle.vhost_message.specs.declared.error.Error.TheVariants.{OutOfMemory, SocketRetry, SocketBroken, InvalidMessage, InvalidParam}
 use Rattle.vhost_message.specs.declared.cause.IoCause.TheVariants.{Raw}
@@ -33,6 +33,8 @@ use Rattle.vhost_frontend_core.specs.declared.values.answer.FrontendAnswer.{Fron
 use Rattle.vhost_frontend_core.specs.declared.values.answer.FrontendAnswer.TheVariants.{Done, Failed}
 use Rattle.vhost_c_common.specs.ByNumber.{By}
 use Rattle.vhost_c_common.specs.Carrying.{emptied}
+use Rattle.vhost_c_common.specs.Held.{Claimed, Gets, HandsLoose, HoldsNone, Released, claimable}
+use Rattle.vhost_c_common.specs.declared.held.Held.{Held}
 use Rattle.vhost_c.specs.Incoming.{missing_from, is_sized}
 use Rattle.vhost_c.specs.Names.{Names}
 use Rattle.vhost_c_common.specs.Number.{inactive_in}
@@ -40,7 +42,7 @@ use Rattle.vhost_c_common.specs.View as session
 use Rattle.vhost_c_common.specs.View.{View, IsEmpty, Lasts, StaysSound, bare, view_of}
 use Rattle.vhost_c_common.specs.declared.incoming.Incoming.{Incoming}
 use Rattle.vhost_c_common.specs.declared.refusal.Refusal.{Refusal}
-use Rattle.vhost_c_common.specs.declared.refusal.Refusal.TheVariants.{NotTaken, Protocol, NothingAsked, NotYet}
+use Rattle.vhost_c_common.specs.declared.refusal.Refusal.TheVariants.{NotTaken, Protocol, NothingAsked, NotYet, OtherAnswer}
 use Rattle.vhost_c.specs.declared.session.Asked.{Asked as CallAsked}
 use Rattle.vhost_c.specs.declared.session.Session.{Session}
 
@@ -55,6 +57,10 @@ arrived s = stream (endpoint_of s.frontend)
 -- what is remembered of the device
 abbrev pub remembers : Session → Frontend
 remembers s = session_of s.frontend
+
+-- whether nothing came of the answer: what comes now comes with its first byte
+abbrev pub is_first : Session → Bool
+is_first s = s.incoming.count == 0
 
 -- it, as the contracts of all sessions see one: with what is remembered, the call whose answer is to be decoded, the answer that was decoded last, and which feature the last ask lacked
 abbrev pub view : Session → View (Frontend × Option CallAsked × FrontendAnswer × ℕ)
@@ -134,6 +140,7 @@ pub record KeepsAll (old new : Session) : Type 0 where
   pub asked : new.asked ≡ old.asked
   pub incoming : new.incoming ≡ old.incoming
   pub answer : new.answer ≡ old.answer
+  pub held : new.held ≡ old.held
 
 -- Why a session refused to ask: the answer before is still to be taken, and nothing changed; or the call failed, and the session is broken only if that is why.
 pub data Refused (call : FrontendCall PlainHandle) (old new : Session) : Refusal → Type 0 where
@@ -149,9 +156,14 @@ Becomes call s (Err r) s' = Refused call s s' r × Stays s s'
 abbrev pub Notes : Result ⊤ Refusal → Session → Type 0
 Notes outcome s = s.inactive ≡ inactive_in outcome
 
+-- what becomes of the descriptors of the answer before, where a call was asked before or not, and is after: once one is, nobody will claim them; else the same are held
+abbrev pub Drops : Bool → Bool → Held → Held → Type 0
+Drops false true old new = Released old new
+Drops was is old new = new ≡ old
+
 -- what a session answers to an ask
 abbrev pub Asking : FrontendCall PlainHandle → Session → Result ⊤ Refusal → Session → Type 0
-Asking call s outcome s' = Becomes call s outcome s' × Notes outcome s'
+Asking call s outcome s' = Becomes call s outcome s' × Notes outcome s' × Drops (is_some s.asked) (is_some s'.asked) s.held s'.held
 
 -- an ask of C
 abbrev pub AsksBy : FrontendCall PlainHandle → Option Session → ℕ → Option Session → Type 0
@@ -206,9 +218,20 @@ pub data Takes (old new : Session) : Result ⊤ Refusal → Type 0 where
   nothing_asked : old.asked ≡ None → new ≡ old → Takes old new (Err NothingAsked)
   not_yet : 0 < missing_of old → new ≡ old → Takes old new (Err NotYet)
 
+-- what becomes of the descriptors that came with an answer: they may be claimed once it was decoded; where it was refused, nobody will claim them
+abbrev pub TakesHeld : Held → Result ⊤ Refusal → Held → Type 0
+TakesHeld old (Ok done) new = new ≡ old
+TakesHeld old (Err NothingAsked) new = new ≡ old
+TakesHeld old (Err NotYet) new = new ≡ old
+TakesHeld old (Err r) new = Released old new
+
 -- what a session answers to bytes of its answer: no more may come than are missing
 abbrev pub Receiving : List ℕ → List ℤ → Session → Result ⊤ Refusal → Session → Type 0
 Receiving bytes fds s outcome s' = session.Receiving (missing_of s) bytes fds (view s) outcome (view s')
+
+-- what becomes of the descriptors that come with them
+abbrev pub Getting : List ℤ → Session → Result ⊤ Refusal → Session → Type 0
+Getting fds s outcome s' = Gets fds (is_first s) s.held outcome s'.held
 
 -- what it answers where it is to hand out what is to be sent
 abbrev pub Sending : List ℕ → List ℤ → ℕ × ℕ → Session → Result ⊤ Refusal → Session → Type 0
@@ -220,12 +243,13 @@ pub data AsksUnless (bad : Type 0) (call : FrontendCall PlainHandle) (old : Opti
   refuses : bad → RejectsBy InvalidParam old n new → AsksUnless bad call old n new
   wants : RejectsBy OutOfMemory old n new → AsksUnless bad call old n new
 
--- A new session: it is sound and empty, nothing is asked, no ask lacked a feature. It has the profile Standard, since a program in C speaks with real backends.
+-- A new session: it is sound and empty, nothing is asked, no ask lacked a feature, no descriptor is held. It has the profile Standard, since a program in C speaks with real backends.
 pub record IsNew (max_queue_num : ℕ) (s : Session) : Type 0 where
   pub empty : IsEmpty (view s)
   pub memory : remembers s ≡ record (new_frontend max_queue_num) { profile = Standard }
   pub asked : s.asked ≡ None
   pub inactive : s.inactive ≡ 0
+  pub held : HoldsNone s.held
 
 -- A session has another profile, and the rest is as before.
 pub record Changes (profile : Profile) (old new : Session) : Type 0 where
@@ -236,6 +260,7 @@ pub record Changes (profile : Profile) (old new : Session) : Type 0 where
   pub incoming : new.incoming ≡ old.incoming
   pub answer : new.answer ≡ old.answer
   pub inactive : new.inactive ≡ old.inactive
+  pub held : new.held ≡ old.held
 
 -- what becomes of a choice of profile
 abbrev pub Choosing : Profile → Session → Result ⊤ Refusal → Session → Type 0
@@ -256,3 +281,30 @@ pub data Opens (max_queue_num : ℕ) : Option Session → ℕ → Option Session
 -- what it answers where its answer is read: so it was read, and nothing changed
 abbrev pub Reading : (FrontendAnswer → Result ⊤ Refusal → Type 0) → Session → Result ⊤ Refusal → Session → Type 0
 Reading reads s outcome s' = reads s.answer outcome × (s' ≡ s)
+
+-- ---- descriptors
+
+-- Nothing changed but which are held.
+pub record KeepsRest (old new : Session) : Type 0 where
+  pub frontend : new.frontend ≡ old.frontend
+  pub outgoing : new.outgoing ≡ old.outgoing
+  pub asked : new.asked ≡ old.asked
+  pub incoming : new.incoming ≡ old.incoming
+  pub answer : new.answer ≡ old.answer
+  pub inactive : new.inactive ≡ old.inactive
+
+-- what a session answers to a claim of a descriptor: it came with the answer that was decoded last, and is the caller's now; or an answer is still to be decoded, or it has none of that number that was not claimed
+abbrev pub Claiming : ℤ → Session → Result ⊤ Refusal → Session → Type 0
+Claiming fd s (Ok done) s' = (is_some s.asked ≡ false) × Claimed fd s.held s'.held × KeepsRest s s'
+Claiming fd s (Err OtherAnswer) s' = (is_some s.asked ≡ false → ¬ (Contains (claimable s.held) fd)) × (s'.held ≡ s.held) × KeepsRest s s'
+Claiming fd s _ s' = ⊥
+
+-- what a call of C does that hands out descriptors that nobody will claim
+abbrev pub LettingGo : List ℤ → ℕ → List ℤ → Session → Result ⊤ Refusal → Session → Type 0
+LettingGo before count after s (Ok done) s' = HandsLoose s.held before count after s'.held × KeepsRest s s'
+LettingGo before count after s (Err r) s' = ⊥
+
+-- what a call of C does after which nobody will claim what came
+abbrev pub Abandoning : Session → Result ⊤ Refusal → Session → Type 0
+Abandoning s (Ok done) s' = Released s.held s'.held × KeepsRest s s'
+Abandoning s (Err r) s' = ⊥

@@ -2,7 +2,7 @@
 
 ghost use Rattle.std.specs.Prelude.{◌≡◌};
 ghost use Rattle.vhost_c_common.specs.ByNumber.{By};
-ghost use Rattle.vhost_c_backend.specs.Served.{Sending, Receiving, Ending};
+ghost use Rattle.vhost_c_backend.specs.Served.{Sending, Receiving, Getting, Ending};
 ghost use Rattle.vhost_c_backend.specs.Serving.{Beginning};
 ghost use Rattle.vhost_c.specs.Backend.{missing_at, inactive_at, ended_at};
 
@@ -32,7 +32,8 @@ pub extern "C" fn covretin_backend_receive(
     bytes: &[u8],
     fds: &[i32],
 ) -> u32
-    ensures { By (Receiving bytes.now fds.now) backend.old.session result backend.new.session }
+    ensures received { By (Receiving bytes.now fds.now) backend.old.session result backend.new.session }
+    ensures held { By (Getting fds.now) backend.old.session result backend.new.session }
 {
     match backend.take(alloc) {
         None => number_of(Err(Refusal::NoSession)),
@@ -69,7 +70,8 @@ pub extern "C" fn covretin_backend_to_send(
     byte_count: &mut usize,
     fd_count: &mut usize,
 ) -> u32
-    ensures { By (Sending bytes.new fds.new (byte_count.new, fd_count.new)) backend.old.session result backend.new.session }
+    ensures sent { By (Sending bytes.new fds.new (byte_count.new, fd_count.new)) backend.old.session result backend.new.session }
+    ensures held { By (λ s o s'. s'.held ≡ s.held) backend.old.session result backend.new.session }
 {
     match backend.take(alloc) {
         None => number_of(Err(Refusal::NoSession)),

@@ -2,7 +2,7 @@
 
 ghost use Rattle.std.specs.Prelude.{◌≡◌};
 ghost use Rattle.vhost_c_common.specs.ByNumber.{By};
-ghost use Rattle.vhost_c_channel.specs.Asking.{Sending, Receiving, Takes};
+ghost use Rattle.vhost_c_channel.specs.Asking.{Sending, Receiving, Getting, LettingGo, Takes};
 ghost use Rattle.vhost_c.specs.Channel.{missing_at};
 
 use crate::channel_holder::ChannelHolder;
@@ -19,7 +19,8 @@ pub extern "C" fn covretin_channel_to_send(
     byte_count: &mut usize,
     fd_count: &mut usize,
 ) -> u32
-    ensures { By (Sending bytes.new fds.new (byte_count.new, fd_count.new)) channel.old.session result channel.new.session }
+    ensures sent { By (Sending bytes.new fds.new (byte_count.new, fd_count.new)) channel.old.session result channel.new.session }
+    ensures held { By (λ s o s'. s'.held ≡ s.held) channel.old.session result channel.new.session }
 {
     match channel.take(alloc) {
         None => number_of(Err(Refusal::NoSession)),
@@ -60,7 +61,8 @@ pub extern "C" fn covretin_channel_receive(
     bytes: &[u8],
     fds: &[i32],
 ) -> u32
-    ensures { By (Receiving bytes.now fds.now) channel.old.session result channel.new.session }
+    ensures received { By (Receiving bytes.now fds.now) channel.old.session result channel.new.session }
+    ensures held { By (Getting fds.now) channel.old.session result channel.new.session }
 {
     match channel.take(alloc) {
         None => number_of(Err(Refusal::NoSession)),
@@ -83,6 +85,26 @@ pub extern "C" fn covretin_channel_take(alloc: Global, channel: &mut ChannelHold
             let outcome = held.take();
             channel.put(held);
             number_of(outcome)
+        }
+    }
+}
+
+/// Hands out descriptors that came: nobody will claim them.
+#[unsafe(no_mangle)]
+pub extern "C" fn covretin_channel_unclaimed(
+    alloc: Global,
+    channel: &mut ChannelHolder,
+    fds: &mut [i32],
+    count: &mut usize,
+) -> u32
+    ensures { By (LettingGo fds.old count.new fds.new) channel.old.session result channel.new.session }
+{
+    match channel.take(alloc) {
+        None => number_of(Err(Refusal::NoSession)),
+        Some(mut held) => {
+            *count = held.unclaimed(fds);
+            channel.put(held);
+            number_of(Ok(()))
         }
     }
 }

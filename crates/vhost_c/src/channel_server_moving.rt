@@ -2,7 +2,7 @@
 
 ghost use Rattle.std.specs.Prelude.{◌≡◌};
 ghost use Rattle.vhost_c_common.specs.ByNumber.{By};
-ghost use Rattle.vhost_c_channel.specs.Serving.{Sending, Receiving, Ending, Beginning};
+ghost use Rattle.vhost_c_channel.specs.Serving.{Sending, Receiving, Getting, Ending, Beginning};
 ghost use Rattle.vhost_c.specs.Channel.{missing_of_server};
 
 use crate::channel_server_holder::ChannelServerHolder;
@@ -34,7 +34,8 @@ pub extern "C" fn covretin_channel_server_receive(
     bytes: &[u8],
     fds: &[i32],
 ) -> u32
-    ensures { By (Receiving bytes.now fds.now) server.old.session result server.new.session }
+    ensures received { By (Receiving bytes.now fds.now) server.old.session result server.new.session }
+    ensures held { By (Getting fds.now) server.old.session result server.new.session }
 {
     match server.take(alloc) {
         None => number_of(Err(Refusal::NoSession)),
@@ -74,7 +75,8 @@ pub extern "C" fn covretin_channel_server_to_send(
     byte_count: &mut usize,
     fd_count: &mut usize,
 ) -> u32
-    ensures { By (Sending bytes.new fds.new (byte_count.new, fd_count.new)) server.old.session result server.new.session }
+    ensures sent { By (Sending bytes.new fds.new (byte_count.new, fd_count.new)) server.old.session result server.new.session }
+    ensures held { By (λ s o s'. s'.held ≡ s.held) server.old.session result server.new.session }
 {
     match server.take(alloc) {
         None => number_of(Err(Refusal::NoSession)),

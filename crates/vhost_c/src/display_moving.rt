@@ -2,7 +2,7 @@
 
 ghost use Rattle.std.specs.Prelude.{◌≡◌};
 ghost use Rattle.vhost_c_common.specs.ByNumber.{By};
-ghost use Rattle.vhost_c_channel.specs.Display.{Sending, Receiving};
+ghost use Rattle.vhost_c_channel.specs.Display.{Sending, Receiving, Getting, LettingGo};
 ghost use Rattle.vhost_c.specs.Display.{missing_at};
 
 use crate::display_holder::DisplayHolder;
@@ -19,7 +19,8 @@ pub extern "C" fn covretin_display_to_send(
     byte_count: &mut usize,
     fd_count: &mut usize,
 ) -> u32
-    ensures { By (Sending bytes.new fds.new (byte_count.new, fd_count.new)) display.old.session result display.new.session }
+    ensures sent { By (Sending bytes.new fds.new (byte_count.new, fd_count.new)) display.old.session result display.new.session }
+    ensures held { By (λ s o s'. s'.held ≡ s.held) display.old.session result display.new.session }
 {
     match display.take(alloc) {
         None => number_of(Err(Refusal::NoSession)),
@@ -60,7 +61,8 @@ pub extern "C" fn covretin_display_receive(
     bytes: &[u8],
     fds: &[i32],
 ) -> u32
-    ensures { By (Receiving bytes.now fds.now) display.old.session result display.new.session }
+    ensures received { By (Receiving bytes.now fds.now) display.old.session result display.new.session }
+    ensures held { By (Getting fds.now) display.old.session result display.new.session }
 {
     match display.take(alloc) {
         None => number_of(Err(Refusal::NoSession)),
@@ -68,6 +70,26 @@ pub extern "C" fn covretin_display_receive(
             let outcome = held.receive(bytes, fds);
             display.put(held);
             number_of(outcome)
+        }
+    }
+}
+
+/// Hands out descriptors that came: nobody will claim them.
+#[unsafe(no_mangle)]
+pub extern "C" fn covretin_display_unclaimed(
+    alloc: Global,
+    display: &mut DisplayHolder,
+    fds: &mut [i32],
+    count: &mut usize,
+) -> u32
+    ensures { By (LettingGo fds.old count.new fds.new) display.old.session result display.new.session }
+{
+    match display.take(alloc) {
+        None => number_of(Err(Refusal::NoSession)),
+        Some(mut held) => {
+            *count = held.unclaimed(fds);
+            display.put(held);
+            number_of(Ok(()))
         }
     }
 }

@@ -2,7 +2,7 @@
 
 ghost use Rattle.std.specs.Prelude.{◌≡◌};
 ghost use Rattle.vhost_c_common.specs.ByNumber.{By};
-ghost use Rattle.vhost_c.specs.Session.{Sending, Receiving, Takes, missing_at, inactive_at};
+ghost use Rattle.vhost_c.specs.Session.{Sending, Receiving, Getting, Takes, TakesHeld, missing_at, inactive_at};
 
 use crate::holder::Holder;
 use std::alloc::Global;
@@ -18,7 +18,8 @@ pub extern "C" fn covretin_to_send(
     byte_count: &mut usize,
     fd_count: &mut usize,
 ) -> u32
-    ensures { By (Sending bytes.new fds.new (byte_count.new, fd_count.new)) session.old.session result session.new.session }
+    ensures sent { By (Sending bytes.new fds.new (byte_count.new, fd_count.new)) session.old.session result session.new.session }
+    ensures held { By (λ s o s'. s'.held ≡ s.held) session.old.session result session.new.session }
 {
     match session.take(alloc) {
         None => number_of(Err(Refusal::NoSession)),
@@ -74,7 +75,8 @@ pub extern "C" fn covretin_receive(
     bytes: &[u8],
     fds: &[i32],
 ) -> u32
-    ensures { By (Receiving bytes.now fds.now) session.old.session result session.new.session }
+    ensures received { By (Receiving bytes.now fds.now) session.old.session result session.new.session }
+    ensures held { By (Getting fds.now) session.old.session result session.new.session }
 {
     match session.take(alloc) {
         None => number_of(Err(Refusal::NoSession)),
@@ -89,7 +91,8 @@ pub extern "C" fn covretin_receive(
 /// Decodes the answer of the call that was asked.
 #[unsafe(no_mangle)]
 pub extern "C" fn covretin_take(alloc: Global, session: &mut Holder) -> u32
-    ensures { By (λ s o s'. Takes s s' o) session.old.session result session.new.session }
+    ensures taken { By (λ s o s'. Takes s s' o) session.old.session result session.new.session }
+    ensures held { By (λ s o s'. TakesHeld s.held o s'.held) session.old.session result session.new.session }
 {
     match session.take(alloc) {
         None => number_of(Err(Refusal::NoSession)),

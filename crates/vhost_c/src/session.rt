@@ -15,7 +15,7 @@ ghost use Rattle.vhost_c.specs.Awaiting.{awaited_of};
 use crate::carrying::{collect, forget, forget_arrived, hand_out, receive, take_nothing};
 use crate::incoming::{is_sized, missing_from};
 use std::alloc::Global;
-use vhost_c_common::{Incoming, Outgoing, Refusal, inactive_of};
+use vhost_c_common::{Held, Incoming, Outgoing, Refusal, inactive_of};
 use vhost_endpoint::talks_law;
 use vhost_frontend_core::{
     Awaited, FrontendAnswer, FrontendCall, FrontendInternal, Profile, Sent, ask, take,
@@ -37,14 +37,16 @@ struct Asked {
     ghost kept: { ∥ IsKeptFor (call_of call) sent.awaited sent.kept ∥₁ },
 }
 
-/// A session: the frontend, what is to be sent, and the call whose answer the frontend awaits. Its link makes no short read
-/// or write, so only a failed allocation poisons the session.
+/// A session: the frontend, what is to be sent, the call whose answer the frontend awaits, and the descriptors that came. Its link
+/// makes no short read or write, so only a failed allocation poisons the session.
 #[derive(Drop)]
 pub struct Session {
     frontend: FrontendInternal<MemLink>,
     outgoing: Outgoing,
     asked: Option<Asked>,
     incoming: Incoming,
+    /// Those that came with the answer that is received or was decoded last, and those that nobody will claim.
+    held: Held,
     answer: FrontendAnswer,
     /// The feature that was not active, where the call that was asked last was refused for that; else 0.
     inactive: u64,
@@ -57,7 +59,9 @@ pub struct Session {
 impl Session {
     ghost use Rattle.vhost_message.specs.declared.limits.TheConstants.{MAX_MSG_TEXT};
     ghost use Rattle.vhost_c_common.specs.Moving.{HandsOut};
-    ghost use Rattle.vhost_c.specs.Session.{IsNew, Changes, Asks, Asking, Rejecting, Becomes, Stays, Fails, Takes, queued, view, missing_of};
+    ghost use Rattle.vhost_c.specs.Session.{IsNew, Changes, Asks, Asking, Rejecting, Becomes, Stays, Fails, Takes, Claiming, Drops, KeepsRest, TakesHeld, is_first, queued, view, missing_of};
+    ghost use Rattle.vhost_c_common.specs.Held.{Gets, HandsLoose, Released};
+    ghost use Rattle.std.specs.Prelude.{is_some};
     ghost use Rattle.vhost_c_common.specs.View.{Hands, HandsNone, Lasts, Receives, TakesNone};
 
     /// A new session with a backend of at most so many queues, of the profile `Standard`.
@@ -77,6 +81,7 @@ impl Session {
                 outgoing,
                 asked: None,
                 incoming: Incoming::new(),
+                held: Held::new(alloc),
                 answer: FrontendAnswer::Done,
                 inactive: 0,
                 alloc,
@@ -117,7 +122,8 @@ impl Session {
 
     /// What becomes of an ask, but for the feature that was not active.
     fn ask_in_turn(&mut self, call: FrontendCall) -> Outcome<()>
-        ensures { Becomes (call_of call) self.old result self.new }
+        ensures becomes { Becomes (call_of call) self.old result self.new }
+        ensures held { Drops (is_some self.old.asked) (is_some self.new.asked) self.old.held self.new.held }
     {
         if self.asked.is_some() {
             return Err(Refusal::NotTaken);
@@ -144,11 +150,13 @@ impl Session {
         ensures refused { IfErr result (λ _. Stays self.old self.new) }
         ensures reason { IfErr result (λ e. Fails (call_of call) self.old e) }
         ensures sound { IfErr result (λ e. Lasts e (endpoint_of self.old.frontend) (endpoint_of self.new.frontend)) }
+        ensures held { Drops (is_some self.old.asked) (is_some self.new.asked) self.old.held self.new.held }
     {
         stream_law();
         talks_law();
         match ask(&mut self.frontend, &call) {
             Ok(Some(sent)) => {
+                self.held.release();
                 self.incoming = Incoming::new();
                 let asked = Asked { call, sent };
                 self.asked = Some(asked);
@@ -171,6 +179,7 @@ impl Session {
         ensures reason { IfErr result (λ r. HandsNone bytes.new fds.new r) }
         ensures refused { IfErr result (λ _. queued self.new ≡ queued self.old) }
         ensures rest { Hands (view self.old) (view self.new) }
+        ensures held { self.new.held ≡ self.old.held }
     {
         if bytes.is_empty() || fds.len() < MAX_ATTACHED_FD_ENTRIES {
             return Err(Refusal::NoRoom);
@@ -201,12 +210,17 @@ impl Session {
     pub(crate) fn receive(&mut self, bytes: &[u8], fds: &[i32]) -> Outcome<()>
         ensures received { Receives (missing_of self.old) bytes.now fds.now (view self.old) result (view self.new) }
         ensures reason { IfErr result (λ r. TakesNone (missing_of self.old) bytes.now fds.now r) }
+        ensures held { Gets fds.now (is_first self.old) self.old.held result self.new.held }
     {
         if bytes.len() > self.missing() {
             return Err(Refusal::TooManyBytes);
         }
+        if let Err(error) = self.held.make_room(bytes, fds) {
+            return Err(Refusal::Protocol(error));
+        }
         match receive(self.alloc, &mut self.frontend, bytes, fds) {
             Ok(()) => {
+                self.held.arrive(fds, self.incoming.count == 0);
                 self.incoming.add(bytes);
                 Ok(())
             }
@@ -220,7 +234,8 @@ impl Session {
     /// InvalidMessage: the answer has another size than this call's, and nothing of it was read. The errors of the call.
     /// After these, nothing is asked any more.
     pub(crate) fn take(&mut self) -> Outcome<()>
-        ensures { Takes self.old self.new result }
+        ensures taken { Takes self.old self.new result }
+        ensures held { TakesHeld self.old.held result self.new.held }
     {
         if self.missing() > 0 {
             return Err(Refusal::NotYet);
@@ -232,11 +247,13 @@ impl Session {
                 let profile = self.frontend.profile();
                 if !is_sized(&self.incoming, profile, &call, sent.awaited()) {
                     let _nothing = take_nothing(&mut self.frontend, &call, sent);
+                    self.held.release();
                     self.answer = FrontendAnswer::Done;
                     return Err(Refusal::Protocol(Error::InvalidMessage));
                 }
                 match take(&mut self.frontend, &call, sent) {
                     FrontendAnswer::Failed(error) => {
+                        self.held.release();
                         self.answer = FrontendAnswer::Done;
                         Err(Refusal::Protocol(error))
                     }
@@ -248,6 +265,41 @@ impl Session {
             }
             None => Err(Refusal::NothingAsked),
         }
+    }
+
+    /// Claims a descriptor of the answer that was decoded last: it came with its first byte, and is the caller's from now on.
+    ///
+    /// OtherAnswer: a call's answer is still to be decoded, or none of its descriptors has this number that was not claimed.
+    /// Then nothing changed.
+    pub(crate) fn claim(&mut self, fd: i32) -> Outcome<()>
+        ensures { Claiming fd self.old result self.new }
+    {
+        if self.asked.is_some() {
+            return Err(Refusal::OtherAnswer);
+        }
+        if self.held.claim(fd) {
+            Ok(())
+        } else {
+            Err(Refusal::OtherAnswer)
+        }
+    }
+
+    /// Hands out descriptors that nobody will claim, to the front of a place: how many. They are the caller's from now on, which
+    /// closes them. None is left where it is 0 and the place has room.
+    pub(crate) fn unclaimed(&mut self, place: &mut [i32]) -> usize
+        ensures out { HandsLoose self.old.held place.old result place.new self.new.held }
+        ensures rest { KeepsRest self.old self.new }
+    {
+        self.held.hand_out(place)
+    }
+
+    /// Nobody will claim what came: the rest of the answer that is received will never come, or the one that was decoded last is
+    /// done with.
+    pub(crate) fn abandon(&mut self)
+        ensures released { Released self.old.held self.new.held }
+        ensures rest { KeepsRest self.old self.new }
+    {
+        self.held.release();
     }
 
     /// The feature that was not active, where the call that was asked last was refused for that; else 0.

@@ -67,7 +67,7 @@ returns-in-Ok-take c bit steps goes given fits offers =
     let alive : is_some (served.remembers b2).failed ≡ false = sym c.ended.ensures ∙ c.if-ended.false in
     let f3 = c.carry_reply.new.to in let b3 = c.carry_reply.new.from in let f4 = c.take.new.self in
     let back = c.in-Ok-carry_reply.ensures (closing.hs bit call given r fits offers f0 f1 f2 b0 b1 b2 steps s over met alive) (closing.text bit call given r fits offers f0 f1 f2 b0 b1 b2 steps s over met alive) (closing.told bit call given r fits offers f0 f1 f2 b0 b1 b2 steps s over met alive) (closing.on-way bit call given r fits offers f0 f1 f2 b0 b1 b2 steps s over met alive) in
-    answered-so bit call given r fits offers f0 f1 f2 b0 b1 b2 steps s over met alive c.talks_law.ensures.talks f3 f4 b3 back goes c.in-Ok-take.ensures
+    answered-so bit call given r fits offers f0 f1 f2 b0 b1 b2 steps s over met alive c.talks_law.ensures.talks f3 f4 b3 back goes c.in-Ok-take.ensures.taken
 
 pub returns-in-Err-take : goal.returns-in-Err-take
 returns-in-Err-take c bit steps goes given fits offers =
@@ -81,4 +81,4 @@ returns-in-Err-take c bit steps goes given fits offers =
     let f3 = c.carry_reply.new.to in let b3 = c.carry_reply.new.from in let f4 = c.take.new.self in
     let back = c.in-Ok-carry_reply.ensures (closing.hs bit call given r fits offers f0 f1 f2 b0 b1 b2 steps s over met alive) (closing.text bit call given r fits offers f0 f1 f2 b0 b1 b2 steps s over met alive) (closing.told bit call given r fits offers f0 f1 f2 b0 b1 b2 steps s over met alive) (closing.on-way bit call given r fits offers f0 f1 f2 b0 b1 b2 steps s over met alive) in
     by-refusal (λ x. Joins bit call r f0 b0 x f4 b3) c.in-Err-take.refusal c.of_refusal-in-Err-take.result c.of_refusal-in-Err-take.ensures (λ want. want)
-    (λ free. failed-so bit call given r fits offers f0 f1 f2 b0 b1 b2 steps s over met alive c.talks_law.ensures.talks f3 f4 b3 back c.in-Err-take.refusal free c.in-Err-take.ensures)
+    (λ free. failed-so bit call given r fits offers f0 f1 f2 b0 b1 b2 steps s over met alive c.talks_law.ensures.talks f3 f4 b3 back c.in-Err-take.refusal free c.in-Err-take.ensures.taken)

@@ -30,8 +30,8 @@ noted call s t n u b v (Ok done) (at_once flags is memory queue asked incoming a
 noted call s t n u b v (Err r) (why, stays) = (noted-why r why, record { queue = stays.queue; rest = record { memory = stays.rest.memory; asked = stays.rest.asked; incoming = stays.rest.incoming; answer = stays.rest.answer } })
   where
     noted-why : (r : Refusal) → Refused call s t r → Refused call s (record t { inactive = n; uncut = u; broken = b; awaited = v }) r
-    noted-why _ (busy is k) = busy is (record { frontend = k.frontend; outgoing = k.outgoing; asked = k.asked; incoming = k.incoming; answer = k.answer })
+    noted-why _ (busy is k) = busy is (record { frontend = k.frontend; outgoing = k.outgoing; asked = k.asked; incoming = k.incoming; answer = k.answer; held = k.held })
     noted-why _ (fails why lasts) = fails why lasts
 
 pub returns : goal.returns
-returns c = (noted _ _ c.ask_in_turn-outcome.new.self _ _ _ _ c.ask_in_turn-outcome.result c.ask_in_turn-outcome.ensures, c.inactive_of-self.ensures)
+returns c = (noted _ _ c.ask_in_turn-outcome.new.self _ _ _ _ c.ask_in_turn-outcome.result c.ask_in_turn-outcome.ensures.becomes, c.inactive_of-self.ensures, c.ask_in_turn-outcome.ensures.held)

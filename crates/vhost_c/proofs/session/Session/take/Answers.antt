@@ -41,8 +41,8 @@ some_missing m n is some = omega arith
 none_missing : (m n : ℕ) → m ≡ n → m ≤ 0 → n ≡ 0
 none_missing m n is none = omega arith
 
-pub returns-then-missing-gt0 : goal.returns-then-missing-gt0
-returns-then-missing-gt0 c = not_yet (some_missing _ _ c.missing.ensures.missing c.if-missing-gt0.true) refl
+pub returns-then-missing-gt0-clause-taken : goal.returns-then-missing-gt0-clause-taken
+returns-then-missing-gt0-clause-taken c = not_yet (some_missing _ _ c.missing.ensures.missing c.if-missing-gt0.true) refl
 
 -- the promise of taking, of a call that is kept
 taken-at : (asked : Asked) (end : End) (f : Frontend) (answer : FrontendAnswer) (new : Front) → TakesAt (call_of asked.call) asked.sent end f answer new
@@ -85,8 +85,8 @@ invariant_of-self-in_default c =
     let u = uncut-after c.in-Some.field-0 (endpoint_of old) (session_of old) _ c.take-in-Some.new.frontend (at-end c.in-Some.field-0 old _ c.take-in-Some.new.frontend c.take-in-Some.ensures) (record { uncut = c.args.self.now.uncut; broken = c.args.self.now.broken }) in
     record { uncut = u.uncut; broken = u.broken; awaited = c.take-in-Some.ensures.quiet ∙ ap of-asked (sym c.take.ensures.after) }
 
-pub returns-then-not-is_sized : goal.returns-then-not-is_sized
-returns-then-not-is_sized c = other_size c.in-Some.field-0 c.take_nothing-nothing.result (none_missing _ _ c.missing.ensures.missing c.if-missing-gt0.false)
+pub returns-then-not-is_sized-clause-taken : goal.returns-then-not-is_sized-clause-taken
+returns-then-not-is_sized-clause-taken c = other_size c.in-Some.field-0 c.take_nothing-nothing.result (none_missing _ _ c.missing.ensures.missing c.if-missing-gt0.false)
     (sized _ _ c.in-Some.field-0 c.args.self.now.incoming c.awaited.result c.is_sized.result c.profile-profile.ensures c.awaited.ensures c.is_sized.ensures ∙ c.if-not-is_sized.true) (record {
       was = sym c.in-Some.ensures.value;
       taken = taken-at c.in-Some.field-0 _ _ _ _ c.take_nothing-nothing.ensures;
@@ -96,8 +96,8 @@ returns-then-not-is_sized c = other_size c.in-Some.field-0 c.take_nothing-nothin
       inactive = refl;
     }) refl
 
-pub returns-in-Failed : goal.returns-in-Failed
-returns-in-Failed c = failed c.in-Some.field-0 (none_missing _ _ c.missing.ensures.missing c.if-missing-gt0.false)
+pub returns-in-Failed-clause-taken : goal.returns-in-Failed-clause-taken
+returns-in-Failed-clause-taken c = failed c.in-Some.field-0 (none_missing _ _ c.missing.ensures.missing c.if-missing-gt0.false)
     (sized _ _ c.in-Some.field-0 c.args.self.now.incoming c.awaited.result c.is_sized.result c.profile-profile.ensures c.awaited.ensures c.is_sized.ensures ∙ c.if-not-is_sized.false) (record {
       was = sym c.in-Some.ensures.value;
       taken = taken c.in-Some.field-0 _ _ _ c.in-Failed.ensures;
@@ -107,8 +107,8 @@ returns-in-Failed c = failed c.in-Some.field-0 (none_missing _ _ c.missing.ensur
       inactive = refl;
     }) refl
 
-pub returns-in-Some : goal.returns-in-Some
-returns-in-Some c =
+pub returns-in-Some-clause-taken : goal.returns-in-Some-clause-taken
+returns-in-Some-clause-taken c =
     let asked = c.in-Some.field-0 in let old = c.args.self.now.frontend in let new = c.take-in-Some.new.frontend in
     let result = taken asked old c.take-in-Some.result new c.take-in-Some.ensures in
     kept asked (none_missing _ _ c.missing.ensures.missing c.if-missing-gt0.false)
@@ -127,5 +127,5 @@ same : (s : Session) (a : Option Asked) (u : (endpoint_of s.frontend).link.scrip
 same s a u b w is = subst (λ (x : Option Asked). (v : awaits s.frontend ≡ of-asked x) → record s { asked = x; uncut = u; broken = b; awaited = v } ≡ s) (sym is)
     (λ v i. record s { uncut = uncut-prop (endpoint_of s.frontend) u s.uncut i; broken = broken-prop (endpoint_of s.frontend) b s.broken i; awaited = awaited-set (awaits s.frontend) (of-asked s.asked) v s.awaited i }) w
 
-pub returns : goal.returns
-returns c = nothing_asked (sym c.in-None.ensures.value) (same c.args.self.now _ _ _ _ (c.take.ensures.after ∙ c.in-None.ensures.value))
+pub returns-clause-taken : goal.returns-clause-taken
+returns-clause-taken c = nothing_asked (sym c.in-None.ensures.value) (same c.args.self.now _ _ _ _ (c.take.ensures.after ∙ c.in-None.ensures.value))
