@@ -135,7 +135,7 @@ unless m r memory new why met = by (is_want why) refl
 module _ (m : Request) (r : Reply) (old new : Served) (due : IsOpen m old) where
   concluded : (c : DeviceCall) (a : DeviceAnswer PlainHandle) (place : VhostUserShMemConfig) (result : Result ⊤ declared.Error) → IsCall (served.remembers old) m c → Says (form_in c) r a → Concludes m place a old new result → Rests old new
       → Serves m r (served.remembers old) (goes (for_c result)) new
-  concluded c a place result is says (told rs o follows answer queue came memory sound) rests = by result
+  concluded c a place result is says (told rs o follows answer queue came memory sound own) rests = by result
     where
       makes : Makes (row (served.remembers old) m)
       makes = subst {A = Row} (λ x. Makes x) (sym due.read.read.prepares.row) due.read.read.prepares.makes

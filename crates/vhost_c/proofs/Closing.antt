@@ -49,6 +49,7 @@ use Rattle.vhost_c_common.specs.declared.refusal.Refusal.TheVariants.{Protocol}
 use Rattle.vhost_c_backend.specs.Served as served
 use Rattle.vhost_c_backend.specs.Serving.{Channel, Display, Request}
 use Rattle.vhost_c_backend.specs.declared.replies.Reply.{Reply}
+use Rattle.vhost_c_backend.specs.declared.replies.Form.{Form}
 use Rattle.vhost_c_backend.specs.declared.served.Served.{Served}
 use Rattle.vhost_c.specs.Incoming.{is_sized, missing_from}
 use Rattle.vhost_c.specs.Device.{IsMet, IsSized, Serves, halted, is_want, opens, replies}
@@ -81,7 +82,7 @@ abbrev Front : Type 0
 Front = Frontend × Option CallAsked × FrontendAnswer × ℕ
 
 abbrev Back : Type 0
-Back = Option (Pending PlainHandle) × List ℕ × Service × ℕ
+Back = Option (Pending PlainHandle) × List ℕ × Service × ℕ × Form
 
 nothing : (x : Option ℤ) → is_some x ≡ false → x ≡ None
 nothing None is = refl

@@ -30,6 +30,7 @@ use Rattle.vhost_c_common.specs.View.{End, Receives, TakesNone}
 use Rattle.vhost_c_common.specs.declared.refusal.Refusal.{Refusal}
 use Rattle.vhost_c_common.specs.declared.refusal.Refusal.TheVariants.{Protocol, TooManyBytes}
 use Rattle.vhost_c_backend.specs.Served as served
+use Rattle.vhost_c_backend.specs.declared.replies.Form.{Form}
 use Rattle.vhost_c_backend.specs.declared.served.Served.{Served}
 use Rattle.vhost_c.specs.Device.{IsDue, is_want}
 use Rattle.vhost_c.specs.Judged.{IsRequest}
@@ -38,7 +39,7 @@ use Rattle.vhost_c.proofs.Pieces.{has-come}
 use Rattle.vhost_c.proofs.Told.{behind, come-header, request-told, text-header, text-long, valid-head}
 
 abbrev Kept : Type 0
-Kept = Option (Pending PlainHandle) × List ℕ × Service × ℕ
+Kept = Option (Pending PlainHandle) × List ℕ × Service × ℕ × Form
 
 -- bytes without descriptors, that are no more than are missing, are taken unless memory is refused
 wants : (most : ℕ) (piece : List ℕ) (r : Refusal) → length piece ≤ most → TakesNone most piece [] r → r ≡ Protocol OutOfMemory

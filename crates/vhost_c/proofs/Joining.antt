@@ -28,6 +28,7 @@ use Rattle.vhost_frontend_core.specs.ValueHalves.{IsSent}
 use Rattle.vhost_c_common.specs.Incoming.{missing_by}
 use Rattle.vhost_c_common.specs.View.{End}
 use Rattle.vhost_c_backend.specs.Served as served
+use Rattle.vhost_c_backend.specs.declared.replies.Form.{Form}
 use Rattle.vhost_c_backend.specs.declared.served.Served.{Served}
 use Rattle.vhost_c.specs.Device.{IsDue}
 use Rattle.vhost_c.specs.Joined.{AreInStep, HasFds}
@@ -46,7 +47,7 @@ Message = Written FrontendReq PlainHandle
 
 -- what a backend's session keeps while a message comes
 abbrev Kept : Type 0
-Kept = Option (Pending PlainHandle) × List ℕ × Service × ℕ
+Kept = Option (Pending PlainHandle) × List ℕ × Service × ℕ × Form
 
 -- ---- it was asked
 

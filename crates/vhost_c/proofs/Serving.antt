@@ -16,6 +16,7 @@ use Rattle.vhost_c_backend.specs.Served as served
 use Rattle.vhost_c_backend.specs.Serving.{Begins, Nexts, Request, row}
 use Rattle.vhost_c_backend.specs.declared.replies.Reply.{Reply}
 use Rattle.vhost_c_backend.specs.declared.replies.Reply.TheVariants as reply
+use Rattle.vhost_c_backend.specs.declared.replies.Form.{Form}
 use Rattle.vhost_c_backend.specs.declared.served.Served.{Served}
 use Rattle.vhost_protocol.specs.Handler.{Meets}
 use Rattle.vhost_frontend_core.specs.ValueHalves.{IsProper}
@@ -30,7 +31,7 @@ use Rattle.vhost_c.specs.declared.wire.Halt.{Halt}
 use Rattle.vhost_c.specs.declared.wire.Halt.TheVariants as halt
 
 abbrev Kept : Type 0
-Kept = Option (Pending PlainHandle) × List ℕ × Service × ℕ
+Kept = Option (Pending PlainHandle) × List ℕ × Service × ℕ × Form
 
 -- ---- the answer
 

@@ -1,5 +1,6 @@
 pub mod Keeping
 pub mod Offering
+pub mod Owning
 pub mod Placing
 pub mod Serving
 pub mod Three

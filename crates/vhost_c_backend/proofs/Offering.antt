@@ -173,7 +173,7 @@ module _ (before n : ℕ) (cells : List (Cell PlainHandle)) (s t : Served) (x : 
         (λ i. settled (x.memory i) asked (is i))
 
     replied : (result : Result ⊤ declared.Error) → Concludes asked place a s t result → Offers (cells ++ offer n) (elim result as (λ r. Result ⊤ Refusal) [ Ok u ↦ Ok tt | Err e ↦ Err (Protocol e) ]) t
-    replied (Ok u) (told rs o follows is queue came memory sound) = record {
+    replied (Ok u) (told rs o follows is queue came memory sound own) = record {
       queue = queue ∙ (λ i. x.queue i ++ reply_cells GET_FEATURES (becomes rs o follows i).served);
       came = came ∙ x.came;
       count = ap (λ (i : Incoming). i.count) incoming ∙ x.count;
@@ -183,7 +183,7 @@ module _ (before n : ℕ) (cells : List (Cell PlainHandle)) (s t : Served) (x : 
       sound = sound.after;
       uncut = sound.uncut x.uncut;
     }
-    replied (Err e) (told rs o follows is queue came memory sound) = absurd (cc (sym (ap {A = Outcome PlainHandle} (λ q. q.answer) (becomes rs o follows)) ∙ is))
+    replied (Err e) (told rs o follows is queue came memory sound own) = absurd (cc (sym (ap {A = Outcome PlainHandle} (λ q. q.answer) (becomes rs o follows)) ∙ is))
     replied (Err e) (serving.stopped rs o follows stops memory) = wants (endpoint_of s.core) e x.sound (halted (endpoint_of s.core) (endpoint_of t.core) _ e stops (is-uncut (endpoint_of s.core) x.sound x.uncut))
 
   offered-by : (outcome : Result ⊤ Refusal) → Replying asked (λ f a. Gives f (reply.Number n) a) (λ f r. Rejects f (reply.Number n) r) s.core.service.shmem s outcome t → Offers (cells ++ offer n) outcome t

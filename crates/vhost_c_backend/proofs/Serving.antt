@@ -43,6 +43,7 @@ use Rattle.vhost_c_backend.specs.Serving as serving
 use Rattle.vhost_c_backend.specs.Serving.{Request, Channel, Display, row, IsCall, IsRead, IsServed, Tells, Puts, Concludes, told, Answers, Replies, done, failed, rejected, IsDue}
 use Rattle.vhost_c_backend.specs.declared.replies.Form.{Form}
 use Rattle.vhost_c_backend.specs.declared.served.Served.{Served}
+use Rattle.vhost_c_backend.proofs.Owning.{owns}
 
 -- ---- options
 
@@ -217,6 +218,7 @@ concludes talks law m a old new result finishes outgoing x =
         ∙ sym (append_assoc old.outgoing.link.pending (endpoint_of old.core).link.sent (reply_cells m.request (settled s m o).served)))
         (replies-told talks (endpoint_of old.core) (endpoint_of new.core) cells replies).0
         session (sound (endpoint_of old.core) (endpoint_of new.core) replies.serves)
+        (owns s x.read.pending.request.need_reply (beside_then x.read.pending.then old.core.service) x.read.pending.then a)
     by (Err e) (stopped stops session) = serving.stopped (regions_for x.read.pending.then old.core.service.regions) o follows (subst (λ cs. Stops event (endpoint_of old.core) cs e (endpoint_of new.core)) coded stops) (session ∙ ap (λ r. kept_unsent r s (settled s m o).session) x.read.reads.code)
 
 -- ---- replies
@@ -277,5 +279,5 @@ concludes-placed old new config core a result is concluded m x =
     }))
   where
     again : {r : Result ⊤ declared.Error} → Concludes m config a (placed old config) new r → Concludes m config a old new r
-    again (told rs o follows is queue came memory sound) = told rs o follows is queue came memory sound
+    again (told rs o follows is queue came memory sound own) = told rs o follows is queue came memory sound own
     again (serving.stopped rs o follows stops memory) = serving.stopped rs o follows stops memory

@@ -50,7 +50,7 @@ never r zero = grind arith
 
 -- what a session keeps between two calls
 abbrev pub Kept : Type 0
-Kept = Option (Pending PlainHandle) × List ℕ × Service × ℕ
+Kept = Option (Pending PlainHandle) × List ℕ × Service × ℕ × Form
 
 module _ (text : List ℕ) (m : Request) (memory : Session) (queue : List (Cell PlainHandle)) (number : ℕ) (is : split (heard_in memory) allows_handles (plain text) ≡ (Ok m, [])) (unmarked : memory.failed ≡ None) where
   read : (s : Served) {n : ℕ} {new : Option Served} → arrived s ≡ plain text → remembers s ≡ memory → queued s ≡ queue → By (Beginning number) (Some s) n new → n ≡ 0 → IsSomeAnd new (HasRead m memory queue number)
@@ -88,7 +88,7 @@ record Went (m : Request) (r : Reply) (memory : Session) (queue : List (Cell Pla
 
 module _ (m : Request) (r : Reply) (memory : Session) (queue : List (Cell PlainHandle)) where
   concluded : (place : VhostUserShMemConfig) (a : DeviceAnswer PlainHandle) (f : Form) (s t : Served) → IsWaiting memory queue s → Gives f r a → Concludes m place a s t (Ok tt) → Went m r memory queue t
-  concluded place a f s t waits gives (told rs o follows is queued-is came-is memory-is sound) =
+  concluded place a f s t waits gives (told rs o follows is queued-is came-is memory-is sound own) =
       let same : settled (remembers s) m o ≡ settled memory m o = ap {A = Session} (λ k. settled k m o) waits.memory in
       record {
         form = f;

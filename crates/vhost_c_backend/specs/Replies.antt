@@ -1,5 +1,5 @@
 -- What a device replies, by the form of its call.
-use Rattle.std.specs.Prelude.{◌≡◌, ◌<◌, ℕ, Bool, true, false, not, List, [], ◌∷◌, length, Option, Some, None, Result, Ok, Err}
+use Rattle.std.specs.Prelude.{◌≡◌, ◌<◌, ℕ, Bool, true, false, not, List, [], ◌∷◌, length, Option, Some, None, Result, Ok, Err, ⊤}
 use Rattle.vhost_message.specs.declared.error.Error.TheVariants.{BackendInternalError, OutOfMemory, InvalidParam}
 use Rattle.vhost_link.specs.declared.plain.PlainHandle.{PlainHandle}
 use Rattle.vhost_serving_core.specs.Concluding.{bases_in, bytes_in}
@@ -76,10 +76,16 @@ IsBad (reply.Fd fd) = handle_in fd ≡ None
 IsBad (reply.Inflight i fd) = handle_in fd ≡ None
 IsBad r = ⊥
 
+-- a reply whose list is copied, which wants memory
+abbrev pub IsCopied : Reply → Type 0
+IsCopied (reply.Bases bs) = ⊤
+IsCopied (reply.Config bs) = ⊤
+IsCopied r = ⊥
+
 -- why a reply gives no answer
 abbrev pub Rejects : Form → Reply → Refusal → Type 0
 Rejects f r OtherCall = fits f r ≡ false
-Rejects f r (Protocol OutOfMemory) = fits f r ≡ true
+Rejects f r (Protocol OutOfMemory) = (fits f r ≡ true) × IsCopied r
 Rejects f r (Protocol InvalidParam) = (fits f r ≡ true) × IsBad r
 Rejects f r _ = ⊥
 

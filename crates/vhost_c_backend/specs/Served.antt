@@ -18,6 +18,7 @@ use Rattle.vhost_c_common.specs.View as session
 use Rattle.vhost_c_common.specs.View.{View, IsEmpty, view_of}
 use Rattle.vhost_c_common.specs.declared.refusal.Refusal.{Refusal}
 use Rattle.vhost_c_common.specs.declared.refusal.Refusal.TheVariants.{Protocol, NotReplied, OtherCall}
+use Rattle.vhost_c_backend.specs.declared.replies.Form.{Form}
 use Rattle.vhost_c_backend.specs.declared.served.Served.{Served}
 
 -- what is to be sent: bytes, each with the descriptors that go with it
@@ -48,9 +49,9 @@ missing_of s = if has_call s then 0 else missing_of_request s
 abbrev pub is_first : Served → Bool
 is_first s = s.incoming.count == 0
 
--- it, as the contracts of all sessions see one: with the call that is to be replied to, its body, what is remembered, and which feature the last request lacked
-abbrev pub view : Served → View (Option (Pending PlainHandle) × List ℕ × Service × ℕ)
-view s = view_of s.outgoing (endpoint_of s.core) s.incoming (s.core.pending, s.core.body.value, s.core.service, s.inactive)
+-- it, as the contracts of all sessions see one: with the call that is to be replied to, its body, what is remembered, which feature the last request lacked, and in which form that call is replied to
+abbrev pub view : Served → View (Option (Pending PlainHandle) × List ℕ × Service × ℕ × Form)
+view s = view_of s.outgoing (endpoint_of s.core) s.incoming (s.core.pending, s.core.body.value, s.core.service, s.inactive, s.form)
 
 -- what a session answers to bytes of a request: no more may come than are missing
 abbrev pub Receiving : List ℕ → List ℤ → Served → Result ⊤ Refusal → Served → Type 0

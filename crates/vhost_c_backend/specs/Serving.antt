@@ -1,5 +1,5 @@
 -- Requests that a session reads, the calls of the device that they become, and what is replied.
-use Rattle.std.specs.Prelude.{◌≡◌, ◌<◌, ℕ, ℤ, true, false, List, ◌++◌, Option, Some, None, Result, Ok, Err, ⊤, ok_or}
+use Rattle.std.specs.Prelude.{◌≡◌, ◌<◌, ◌⊎◌, ℕ, ℤ, true, false, List, ◌++◌, Option, Some, None, Result, Ok, Err, ⊤, ok_or}
 use Rattle.vhost_message.specs.declared.cause.IoCause.TheVariants.{Raw}
 use Rattle.vhost_message.specs.declared.error.Error as declared
 use Rattle.vhost_message.specs.declared.error.Error.TheVariants.{SocketBroken}
@@ -8,7 +8,7 @@ use Rattle.vhost_message.specs.declared.records.memory.VhostUserMemoryRegion.{Vh
 use Rattle.vhost_message.specs.declared.records.shmem.VhostUserShMemConfig.{VhostUserShMemConfig}
 use Rattle.vhost_message.specs.Records.{shmem_config}
 use Rattle.vhost_protocol.specs.Codes.{allows_handles}
-use Rattle.vhost_protocol.specs.Error.{seen_result}
+use Rattle.vhost_protocol.specs.Error.{Error, BackendInternalError, seen_result}
 use Rattle.vhost_protocol.specs.Row.{row_of}
 use Rattle.vhost_protocol.specs.Session.{Session, heard_in}
 use Rattle.vhost_protocol.specs.Settled.{settled}
@@ -20,7 +20,7 @@ use Rattle.vhost_link.specs.declared.plain.PlainHandle.{PlainHandle}
 use Rattle.vhost_endpoint.specs.Calls.{HandsOver}
 use Rattle.vhost_endpoint.specs.Requests.{IsReady, Reads, Stops}
 use Rattle.vhost_serving_core.specs.Beginning.{step_of}
-use Rattle.vhost_serving_core.specs.Concluding.{FollowsFrom}
+use Rattle.vhost_serving_core.specs.Concluding.{FollowsFrom, device_in}
 use Rattle.vhost_serving_core.specs.Settling.{Settles}
 use Rattle.vhost_serving_core.specs.declared.answer.DeviceAnswer.{DeviceAnswer}
 use Rattle.vhost_serving_core.specs.declared.call.DeviceCall.{DeviceCall}
@@ -160,11 +160,15 @@ Beginning number s (Err r) s' = Nexts s (Err r) s'
 
 -- ---- replies
 
--- What follows in the table from a device's answer to the call of a message was replied, settled, with these regions of shared memory in their place; or a fault stopped the reply.
+-- an error of what follows from a device's answer: the device's own; or the answer doesn't do for the call
+abbrev pub IsOwn : DeviceAnswer PlainHandle → Error → Type 0
+IsOwn a e = (device_in a ≡ Err e) ⊎ (e ≡ BackendInternalError)
+
+-- What follows in the table from a device's answer to the call of a message was replied, settled, with these regions of shared memory in their place, and fails for the answer alone; or a fault stopped the reply.
 pub data Concludes (m : Request) (place : VhostUserShMemConfig) (a : DeviceAnswer PlainHandle) (old new : Served) : Result ⊤ declared.Error → Type 0 where
   told : {result : Result ⊤ declared.Error} (rs : List VhostUserMemoryRegion) (o : Outcome PlainHandle) → FollowsFrom (remembers old) (beside rs place) a (row (remembers old) m) o
       → (settled (remembers old) m o).answer ≡ seen_result result → queued new ≡ queued old ++ reply_cells m.request (settled (remembers old) m o).served → arrived new ≡ arrived old
-      → remembers new ≡ (settled (remembers old) m o).session → StaysSound (endpoint_of old.core) (endpoint_of new.core) → Concludes m place a old new result
+      → remembers new ≡ (settled (remembers old) m o).session → StaysSound (endpoint_of old.core) (endpoint_of new.core) → ((e : Error) → o.answer ≡ Err e → IsOwn a e) → Concludes m place a old new result
   stopped : {e : declared.Error} (rs : List VhostUserMemoryRegion) (o : Outcome PlainHandle) → FollowsFrom (remembers old) (beside rs place) a (row (remembers old) m) o
       → Stops event (endpoint_of old.core) (reply_cells m.request (settled (remembers old) m o).served) e (endpoint_of new.core)
       → remembers new ≡ kept_unsent m.request (remembers old) (settled (remembers old) m o).session → Concludes m place a old new (Err e)

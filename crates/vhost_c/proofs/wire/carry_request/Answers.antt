@@ -7,6 +7,7 @@ use Rattle.vhost_serving.specs.declared.halves.Pending.{Pending}
 use Rattle.vhost_serving.specs.declared.service.Service.{Service}
 use Rattle.vhost_c_common.specs.Incoming.{missing_by}
 use Rattle.vhost_c_backend.specs.Served as served
+use Rattle.vhost_c_backend.specs.declared.replies.Form.{Form}
 use Rattle.vhost_c_backend.specs.declared.served.Served.{Served}
 use Rattle.vhost_c.specs.Wire.{IsTold, Stops}
 use Rattle.vhost_c.proofs.Pieces.{come-on, told-over, all-over}
@@ -14,7 +15,7 @@ use Rattle.vhost_c.proofs.wire.carry_request.Goals as goal
 
 -- how much is missing is told as at first, and no call is to be replied to
 abbrev Kept : Type 0
-Kept = Option (Pending PlainHandle) × List ℕ × Service × ℕ
+Kept = Option (Pending PlainHandle) × List ℕ × Service × ℕ × Form
 
 memory-same : (old new : Served) → (served.view new).rest ≡ (served.view old).rest → served.remembers new ≡ served.remembers old
 memory-same old new same = ap {A = Kept} (λ k. session_of k.2.session) same
