@@ -1,7 +1,7 @@
 -- What became of a call of a device's session, and of its reply.
 use Rattle.std.proofs.Common.{◌≡◌, ℕ, ◌<◌, ◌≤◌, arith, Bool, true, false, List, [], ◌++◌, append_assoc, Option, Some, None, Result, Ok, Err, refl, sym, ap, subst, ◌∙◌}
 use Rattle.std.proofs.lemmas.List.{append-nil}
-use Rattle.std.specs.Prelude.{⊤, if◌then◌else◌}
+use Rattle.std.specs.Prelude.{⊤, if◌then◌else◌, is_some}
 use Rattle.vhost_message.specs.BackendReq.{backend_request_number}
 use Rattle.vhost_message.specs.MsgHeader.{fields_of}
 use Rattle.vhost_message.specs.declared.backend_req.BackendReq.{BackendReq}
@@ -119,8 +119,8 @@ module _ (k : ReverseCall PlainHandle) (old mid new : Channel) (queue : queued m
   unasked-since _ (session.fails {w = w} {awaited = awaited} {e = e} after is f left) =
       session.fails after (subst {A = Backend} (λ b. reverse_ask b k ≡ Sends w awaited) memory is) (subst (λ (x : End). Fails event x false e after) (ap bare end) f) left
 
-  pub asking-since : (outcome : Result ⊤ Refusal) → AskingNow k mid outcome new → Asking k old outcome new
-  asking-since (Ok done) a = record {
+  pub asking-since : is_some old.asked ≡ false → (outcome : Result ⊤ Refusal) → AskingNow k mid outcome new → Asking k old outcome new
+  asking-since free (Ok done) a = record {
     w = a.w;
     awaited = a.awaited;
     is = subst {A = Backend} (λ b. reverse_ask b k ≡ Sends a.w a.awaited) memory a.is;
@@ -132,7 +132,7 @@ module _ (k : ReverseCall PlainHandle) (old mid new : Channel) (queue : queued m
     held = a.held ∙ held;
     sound = sound-since (ap (λ (e : End). e.broken) end) (ap (λ (e : End). e.link.script) end) a.sound;
   }
-  asking-since (Err r) (why, stays) = (session.unasked (unasked-since r why), record { queue = stays.queue ∙ queue; memory = stays.memory ∙ memory; asked = stays.asked ∙ asked; incoming = stays.incoming ∙ incoming; held = stays.held ∙ held })
+  asking-since free (Err r) (why, stays) = (session.unasked (unasked-since r why), record { queue = stays.queue ∙ queue; memory = stays.memory ∙ memory; asked = stays.asked ∙ asked; incoming = stays.incoming ∙ incoming; held = stays.held ∙ held; came = λ waits. absurd (cc (sym waits ∙ free)) })
 
 -- what is to be sent is the same once it was collected
 pub collected : (before taken pending now : List (Cell PlainHandle)) → pending ≡ before ++ taken → now ≡ [] → pending ++ now ≡ before ++ taken

@@ -1,6 +1,6 @@
 -- What became of a call of a session with a display, and of its reply.
 use Rattle.std.proofs.Common.{◌≡◌, ℕ, ◌<◌, arith, true, false, List, [], ◌∷◌, ◌++◌, length, append_assoc, Option, Some, None, Result, Ok, Err, refl, sym, ap, subst, ◌∙◌}
-use Rattle.std.specs.Prelude.{⊤}
+use Rattle.std.specs.Prelude.{⊤, is_some}
 use Rattle.std.proofs.lemmas.List.{map-append}
 use Rattle.vhost_message.specs.Header.{Header, header_text}
 use Rattle.vhost_message.specs.declared.error.Error as declared
@@ -101,8 +101,8 @@ module _ (c : GpuCall PlainHandle) (old mid new : Display) (queue : queued mid �
   unasked-since _ (session.not_sent e after why left) =
       session.not_sent e after (subst {A = link.Channel Ends PlainHandle} (λ x. AsksHalf event c x (Err e) after) (λ i. record { endpoint = bare (end i); failed = mark i }) why) left
 
-  pub asking-since : (outcome : Result ⊤ Refusal) → AskingNow c mid outcome new → Asking c old outcome new
-  asking-since (Ok done) a = record {
+  pub asking-since : is_some old.asked ≡ false → (outcome : Result ⊤ Refusal) → AskingNow c mid outcome new → Asking c old outcome new
+  asking-since free (Ok done) a = record {
     queue = a.queue ∙ ap (λ xs. xs ++ gpu_cells (gpu_row c)) queue;
     fits = a.fits;
     kept = a.kept;
@@ -114,7 +114,7 @@ module _ (c : GpuCall PlainHandle) (old mid new : Display) (queue : queued mid �
     held = a.held ∙ held;
     sound = sound-since (ap {A = State Ends PlainHandle} (λ e. e.broken) end) (ap {A = State Ends PlainHandle} (λ e. e.link.script) end) a.sound;
   }
-  asking-since (Err r) (why, stays) = (session.unasked (unasked-since r why), record { queue = stays.queue ∙ queue; mark = stays.mark ∙ mark; asked = stays.asked ∙ asked; incoming = stays.incoming ∙ incoming; held = stays.held ∙ held })
+  asking-since free (Err r) (why, stays) = (session.unasked (unasked-since r why), record { queue = stays.queue ∙ queue; mark = stays.mark ∙ mark; asked = stays.asked ∙ asked; incoming = stays.incoming ∙ incoming; held = stays.held ∙ held; came = λ waits. absurd (cc (sym waits ∙ free)) })
 
 -- ---- replies
 

@@ -1,6 +1,6 @@
 -- What a frontend's session reads, and what it replies.
-use Rattle.std.proofs.Common.{◌≡◌, ◌<◌, ◌^◌, ℕ, true, false, List, ◌++◌, append_assoc, Option, Some, Result, Ok, Err, refl, sym, ap, subst, ◌∙◌}
-use Rattle.std.specs.Prelude.{⊤, ok_or}
+use Rattle.std.proofs.Common.{◌≡◌, ◌<◌, ◌≤◌, ◌^◌, ℕ, true, false, List, ◌++◌, append_assoc, Option, Some, Result, Ok, Err, refl, sym, ap, subst, ◌∙◌, arith}
+use Rattle.std.specs.Prelude.{⊤, ok_or, if◌then◌else◌}
 use Rattle.vhost_message.specs.BackendReq.{backend_request_of}
 use Rattle.vhost_message.specs.declared.backend_req.BackendReq.{BackendReq}
 use Rattle.vhost_message.specs.declared.error.Error as declared
@@ -19,6 +19,7 @@ use Rattle.vhost_frontend_req_handler.specs.declared.call.FrontendSideCall.{Fron
 use Rattle.vhost_c_common.proofs.Hearing.{hears-cut, replies-told}
 use Rattle.vhost_c_common.proofs.Wants.{sound}
 use Rattle.vhost_c_common.specs.Held.{LetsGo, Released}
+use Rattle.vhost_c_common.specs.Incoming.{missing_by}
 use Rattle.vhost_c_common.specs.declared.outgoing.Outgoing.{Outgoing}
 use Rattle.vhost_c_common.specs.declared.refusal.Refusal.{Refusal}
 use Rattle.vhost_c_common.specs.declared.refusal.Refusal.TheVariants.{OtherCall}
@@ -46,6 +47,12 @@ module _ (s : ChannelServer) (nobody : (m : Request) (c : FrontendSideCall Plain
   puts-none before = record { one = λ m c x. absurd (nobody m c x); none = λ none. (refl, refl) }
 
 -- ---- the next request
+
+-- none are missing where none are of the request
+pub is-due : (s : ChannelServer) (n : ℕ) → has_call s ≡ false → n ≡ missing_by backend_request_of s.incoming → n ≤ 0 → serving.IsDue s
+is-due s n idle is none =
+    let zero : missing_by backend_request_of s.incoming ≡ 0 = omega arith in
+    record { idle = idle; whole = ap (λ b. if b then 0 else missing_by backend_request_of s.incoming) idle ∙ zero }
 
 pub begins : TalksLaw → (old new : ChannelServer) (number : ℕ) (c : FrontendSideCall PlainHandle) (b : halves.BeginsCall event old.core c new.core) → new.outgoing ≡ old.outgoing → new.incoming.count ≡ 0 → number ≡ call_number c
     → new.call ≡ Some c → new.held ≡ old.held → serving.Begins number old new

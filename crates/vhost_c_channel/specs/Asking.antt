@@ -137,13 +137,14 @@ pub data Refused (c : ReverseCall PlainHandle) (old new : Channel) : Refusal →
   no_memory : has_some old.outgoing.link.pending ≡ true → endpoint_of new ≡ endpoint_of old → Refused c old new (Protocol OutOfMemory)
   unasked : {r : Refusal} → Unasked c old new r → Refused c old new r
 
--- It was not asked: nothing more is to be sent, and the rest is as before.
+-- It was not asked: nothing more is to be sent, what came of a reply that is still to be taken stays, and the rest is as before.
 pub record Stays (old new : Channel) : Type 0 where
   pub queue : queued new ≡ queued old
   pub memory : remembers new ≡ remembers old
   pub asked : new.asked ≡ old.asked
   pub incoming : new.incoming ≡ old.incoming
   pub held : new.held ≡ old.held
+  pub came : is_some old.asked ≡ true → arrived new ≡ arrived old
 
 -- what a session answers to an ask
 abbrev pub Asking : ReverseCall PlainHandle → Channel → Result ⊤ Refusal → Channel → Type 0

@@ -107,13 +107,14 @@ pub data Refused (c : GpuCall PlainHandle) (old new : Display) : Refusal → Typ
   no_memory : has_some old.outgoing.link.pending ≡ true → endpoint_of new ≡ endpoint_of old → Refused c old new (Protocol OutOfMemory)
   unasked : {r : Refusal} → Unasked c old new r → Refused c old new r
 
--- It was not asked: nothing more is to be sent, and the rest is as before.
+-- It was not asked: nothing more is to be sent, what came of a reply that is still to be taken stays, and the rest is as before.
 pub record Stays (old new : Display) : Type 0 where
   pub queue : queued new ≡ queued old
   pub mark : mark_of new ≡ mark_of old
   pub asked : new.asked ≡ old.asked
   pub incoming : new.incoming ≡ old.incoming
   pub held : new.held ≡ old.held
+  pub came : is_some old.asked ≡ true → arrived new ≡ arrived old
 
 -- what a session answers to an ask
 abbrev pub Asking : GpuCall PlainHandle → Display → Result ⊤ Refusal → Display → Type 0

@@ -131,8 +131,14 @@ pub record Begins (number : ℕ) (old new : ChannelServer) : Type 0 where
   pub held : new.held ≡ old.held
   pub sound : StaysSound (endpoint_of old.core) (endpoint_of new.core)
 
+-- The next request may be read: no call is to be replied to, and no byte is known to be missing.
+pub record IsDue (s : ChannelServer) : Type 0 where
+  pub idle : has_call s ≡ false
+  pub whole : missing_of s ≡ 0
+
 -- It was refused, or trouble came first; nobody is asked, nothing of the request is left, and nobody will claim what came with it.
 pub record Denies (e : declared.Error) (old new : ChannelServer) : Type 0 where
+  pub due : IsDue old
   pub mid : FrontendReqCore Ends PlainHandle
   pub refuses : Refuses event old.core e mid
   pub end : endpoint_of new.core ≡ emptied (endpoint_of mid)

@@ -10,7 +10,7 @@ use Rattle.vhost_c_channel.proofs.Calls.{asking-since, collected, no-memory}
 use Rattle.vhost_c_channel.proofs.asking.Channel.ask.Goals as goal
 
 pub returns-then-is_some : goal.returns-then-is_some
-returns-then-is_some c = λ k is. (busy (sym c.is_some.ensures ∙ c.if-is_some.true) refl, record { queue = refl; memory = refl; asked = refl; incoming = refl; held = refl })
+returns-then-is_some c = λ k is. (busy (sym c.is_some.ensures ∙ c.if-is_some.true) refl, record { queue = refl; memory = refl; asked = refl; incoming = refl; held = refl; came = λ waits. refl })
 
 pub returns-in-Ok : goal.returns-in-Ok
 returns-in-Ok c = λ k is.
@@ -20,11 +20,11 @@ returns-in-Ok c = λ k is.
     collected s.outgoing.link.pending (endpoint_of s).link.sent _ _
     (c.in-Ok.ensures.collected.got ∙ ap {A = State Ends PlainHandle} (λ e. s.outgoing.link.pending ++ e.link.sent) c.endpoint_mut.ensures.value)
     (ap {A = State Ends PlainHandle} (λ e. e.link.sent) end)
-    ) refl refl refl refl end c.ask_now.result (c.ask_now.ensures k is)
+    ) refl refl refl refl end (sym c.is_some.ensures ∙ c.if-is_some.false) c.ask_now.result (c.ask_now.ensures k is)
 
 pub returns-in-Err : goal.returns-in-Err
 returns-in-Err c = λ k is.
     let same = c.in-Err.ensures.refused.0 ∙ c.endpoint_mut.ensures.value in (
       no-memory k c.args.self.now _ _ c.in-Err.ensures.memory (some-waits _ (λ none. cc (c.in-Err.ensures.succeeds none))) same,
-      record { queue = λ i. (c.in-Err.ensures.refused.1 i).pending ++ (same i).link.sent; memory = refl; asked = refl; incoming = refl; held = refl },
+      record { queue = λ i. (c.in-Err.ensures.refused.1 i).pending ++ (same i).link.sent; memory = refl; asked = refl; incoming = refl; held = refl; came = λ waits. absurd (cc (sym waits ∙ sym c.is_some.ensures ∙ c.if-is_some.false)) },
     )

@@ -1,4 +1,5 @@
 use Rattle.std.proofs.Common.{List, ◌++◌, Ok, refl, sym, ap, subst, ◌∙◌}
+use Rattle.std.specs.Prelude.{is_some}
 use Rattle.vhost_message.specs.declared.error.Error.TheVariants.{InactiveOperation}
 use Rattle.vhost_message.specs.declared.flags.features.VhostUserProtocolFeatures.{VhostUserProtocolFeatures}
 use Rattle.vhost_protocol.specs.Stream.{Cell}
@@ -30,5 +31,6 @@ returns-in-Err c = λ k is. (
     asked = refl;
     incoming = refl;
     held = refl;
+    came = λ waits. absurd (cc (sym waits ∙ ap is_some c.requires.free));
   },
 )

@@ -12,7 +12,7 @@ use Rattle.vhost_c_channel.proofs.Displays.{asking-since, no-memory}
 use Rattle.vhost_c_channel.proofs.display.Display.ask.Goals as goal
 
 pub returns-then-is_some : goal.returns-then-is_some
-returns-then-is_some c = λ pixels long. (busy (sym c.is_some.ensures ∙ c.if-is_some.true) refl, record { queue = refl; mark = refl; asked = refl; incoming = refl; held = refl })
+returns-then-is_some c = λ pixels long. (busy (sym c.is_some.ensures ∙ c.if-is_some.true) refl, record { queue = refl; mark = refl; asked = refl; incoming = refl; held = refl; came = λ waits. refl })
 
 pub returns-in-Ok : goal.returns-in-Ok
 returns-in-Ok c = λ pixels long.
@@ -22,11 +22,11 @@ returns-in-Ok c = λ pixels long.
     collected s.outgoing.link.pending (endpoint_of s).link.sent _ _
     (c.in-Ok.ensures.collected.got ∙ ap {A = State Ends PlainHandle} (λ e. s.outgoing.link.pending ++ e.link.sent) c.endpoint_mut.ensures.value)
     (ap {A = State Ends PlainHandle} (λ e. e.link.sent) end)
-    ) refl refl refl refl end c.ask_now.result (c.ask_now.ensures pixels long)
+    ) refl refl refl refl end (sym c.is_some.ensures ∙ c.if-is_some.false) c.ask_now.result (c.ask_now.ensures pixels long)
 
 pub returns-in-Err : goal.returns-in-Err
 returns-in-Err c = λ pixels long.
     let same = c.in-Err.ensures.refused.0 ∙ c.endpoint_mut.ensures.value in (
       no-memory (call_in c.args.call.now pixels) c.args.self.now _ _ c.in-Err.ensures.memory (some-waits _ (λ none. cc (c.in-Err.ensures.succeeds none))) same,
-      record { queue = λ i. (c.in-Err.ensures.refused.1 i).pending ++ (same i).link.sent; mark = refl; asked = refl; incoming = refl; held = refl },
+      record { queue = λ i. (c.in-Err.ensures.refused.1 i).pending ++ (same i).link.sent; mark = refl; asked = refl; incoming = refl; held = refl; came = λ waits. absurd (cc (sym waits ∙ sym c.is_some.ensures ∙ c.if-is_some.false)) },
     )

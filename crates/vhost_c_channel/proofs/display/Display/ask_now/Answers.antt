@@ -1,4 +1,5 @@
 use Rattle.std.proofs.Common.{List, ◌++◌, refl, sym, ap, ◌∙◌}
+use Rattle.std.specs.Prelude.{is_some}
 use Rattle.vhost_protocol.specs.Stream.{Cell}
 use Rattle.vhost_link.specs.Ends.{Ends}
 use Rattle.vhost_link.specs.declared.plain.PlainHandle.{PlainHandle}
@@ -23,5 +24,6 @@ returns-in-Err c = λ pixels long. (
     asked = refl;
     incoming = refl;
     held = refl;
+    came = λ waits. absurd (cc (sym waits ∙ ap is_some c.requires.free));
   },
 )
