@@ -15,7 +15,8 @@ use Rattle.vhost_protocol.specs.FrontendCall.{FrontendCall, GetFeatures, SetFeat
 use Rattle.vhost_protocol.specs.Session.{is_listen}
 use Rattle.vhost_frontend_core.specs.declared.values.call.FrontendCall as asks
 use Rattle.vhost_c_common.specs.Number.{error_number}
-use Rattle.vhost_c.specs.Program.{may_answer}
+use Rattle.vhost_c.specs.Calls.{is_named}
+use Rattle.vhost_c.specs.Program.{refusals}
 use Rattle.vhost_c.specs.declared.program.ProgramCall.TheVariants.{Ask}
 
 -- the number of an error as it is seen
@@ -73,7 +74,7 @@ is-seen code.OutOfMemory = refl
 
 -- a number that each ask may answer
 abbrev pub IsOfAsk : ℕ → Type 0
-IsOfAsk n = (call : asks.FrontendCall) → may_answer (Ask call) n ≡ true
+IsOfAsk n = (call : asks.FrontendCall) → is_named (refusals (Ask call)) n ≡ true
 
 abbrev Passes : {A : Type 0} → Result A Error → Type 0
 Passes (Ok a) = ⊤

@@ -34,9 +34,10 @@ use Rattle.vhost_c_common.proofs.Wants.{lasts}
 use Rattle.vhost_c.specs.Answers.{Reads, number_of, bases_of, config_of, fd_of, inflight_of, shmem_of}
 use Rattle.vhost_c.specs.Session.{Reading, Opens, opened, was_open, no_room, ChoosesBy, Choosing, Asking, Asks, sent, at_once, Fails, refused, no_queue, no_list, no_answer, no_request, was_broken, Refused, busy, fails, KeepsAll, Stays, Rejecting, Sending, Receiving, Takes, kept, failed, other_size, nothing_asked, not_yet, remembers, missing_of}
 use Rattle.vhost_c.specs.declared.session.Session.{Session}
-use Rattle.vhost_c.specs.Program.{ReadsTo, Does, IsCalled, Runs, Appends, over, goes_on, AtBoth, none, some, IsAlike, is_early, LeavesTaken, Leaves, IsSound, is_harmless, ends_none, may_answer}
-use Rattle.vhost_c.specs.declared.program.Places.{Places}
-use Rattle.vhost_c.specs.declared.program.ProgramAnswer.{ProgramAnswer}
+use Rattle.vhost_c.specs.Calls.{Runs, over, goes_on, AtBoth, none, some, is_named}
+use Rattle.vhost_c.specs.Program.{ReadsTo, Does, IsCalled, IsAlike, is_early, LeavesTaken, Leaves, IsSound, is_harmless, ends_none, refusals}
+use Rattle.vhost_c.specs.declared.places.Places.{Places}
+use Rattle.vhost_c.specs.declared.places.ProgramAnswer.{ProgramAnswer}
 use Rattle.vhost_c.specs.declared.program.ProgramCall.{ProgramCall}
 use Rattle.vhost_c.specs.declared.program.ProgramCall.TheVariants.{Open, SetProfile, Ask, AskInvalid, AskWithoutMemory, ToSend, Receive, Take, Read, Close}
 use Rattle.vhost_c.specs.declared.program.ProgramRead.{ProgramRead}
@@ -46,7 +47,7 @@ use Rattle.vhost_c.proofs.TakeRefusals.{take-refused}
 
 -- What a call promises beside what it does, by its number.
 pub record Promises (call : ProgramCall) (n : ℕ) (old new : Option Session) : Type 0 where
-  pub named : may_answer call n ≡ true
+  pub named : is_named (refusals call) n ≡ true
   pub leaves : n ≢ 0 → Leaves call n old new
   pub sound : is_harmless n ≡ true → IsSound old → IsSound new
 
@@ -54,7 +55,7 @@ promised : (call : ProgramCall) (n m : ℕ) (old new : Option Session) → n ≡
 promised call n m old new is p = subst (λ k. Promises call k old new) (sym is) p
 
 -- where there is no session
-absent : (call : ProgramCall) → may_answer call 101 ≡ true → Leaves call 101 None None → Promises call 101 None None
+absent : (call : ProgramCall) → is_named (refusals call) 101 ≡ true → Leaves call 101 None None → Promises call 101 None None
 absent call named leaves = record { named = named; leaves = λ refused. leaves; sound = λ harmless was. tt }
 
 -- ---- open and choose
@@ -80,7 +81,7 @@ still : (e : declared.Error) (old new : End) → is_harmless (error_number e) �
 still (code.SocketRetry c) old new harmless l = absurd cc
 still _ old new harmless l = l
 
-why : (call : code-call.FrontendCall) (s : Session) (e : declared.Error) → Fails (call_of call) s e → may_answer (Ask call) (error_number e) ≡ true
+why : (call : code-call.FrontendCall) (s : Session) (e : declared.Error) → Fails (call_of call) s e → is_named (refusals (Ask call)) (error_number e) ≡ true
 why call s e (refused is) = ask-refused (remembers s) (call_of call) e is call
 why call s _ (no_queue more) = refl
 why call s _ (no_list away) = refl
@@ -108,14 +109,14 @@ stays old new keeps = record {
   rest = record { memory = ap (λ f. session_of f) keeps.frontend; asked = keeps.asked; incoming = keeps.incoming; answer = keeps.answer };
 }
 
-rejects : (call : ProgramCall) (e : declared.Error) → may_answer call 101 ≡ true → may_answer call (error_number e) ≡ true → ((n : ℕ) (old new : Option Session) → AtBoth Stays old new → Leaves call n old new) → {n : ℕ} {old new : Option Session} → By (Rejecting e) old n new → Promises call n old new
+rejects : (call : ProgramCall) (e : declared.Error) → is_named (refusals call) 101 ≡ true → is_named (refusals call) (error_number e) ≡ true → ((n : ℕ) (old new : Option Session) → AtBoth Stays old new → Leaves call n old new) → {n : ℕ} {old new : Option Session} → By (Rejecting e) old n new → Promises call n old new
 rejects call e no-session named leaves by.none = absent call no-session (leaves 101 None None none)
 rejects call e no-session named leaves (by.some {s = s} {s' = t} {outcome = o} (is, keeps, notes)) =
     promised call (outcome_number o) (error_number e) (Some s) (Some t) (ap outcome_number is) (record { named = named; leaves = λ refused. leaves (error_number e) (Some s) (Some t) (some (stays s t keeps)); sound = λ harmless was. ap (λ f. (endpoint_of f).broken) keeps.frontend ∙ was })
 
 -- ---- move bytes
 
-none-handed : (p : Places) (bs : List ℕ) (fs : List ℤ) (r : Refusal) → HandsNone bs fs r → may_answer (ToSend p) (number r) ≡ true
+none-handed : (p : Places) (bs : List ℕ) (fs : List ℤ) (r : Refusal) → HandsNone bs fs r → is_named (refusals (ToSend p)) (number r) ≡ true
 none-handed p bs fs refusal.NoRoom h = refl
 none-handed p bs fs (refusal.Protocol e) h = absurd h
 none-handed p bs fs refusal.NoSession h = absurd h
@@ -137,7 +138,7 @@ sends p bs fs count (by.some {s = s} {s' = t} {outcome = Err r} (why-not, queue,
   sound = λ harmless was. ap {A = End} (λ e. e.broken) rest.end ∙ was;
 }
 
-none-given : (bytes : Vec ℕ Global) (fds : Vec ℤ Global) (bs : List ℕ) (fs : List ℤ) (e : declared.Error) → GivesNone bs fs e → may_answer (Receive bytes fds) (error_number e) ≡ true
+none-given : (bytes : Vec ℕ Global) (fds : Vec ℤ Global) (bs : List ℕ) (fs : List ℤ) (e : declared.Error) → GivesNone bs fs e → is_named (refusals (Receive bytes fds)) (error_number e) ≡ true
 none-given bytes fds bs fs code.InvalidParam h = refl
 none-given bytes fds bs fs code.OutOfMemory h = refl
 none-given bytes fds bs fs (code.InvalidOperation name) h = absurd h
@@ -163,7 +164,7 @@ none-given bytes fds bs fs code.MemFdCreateError h = absurd h
 none-given bytes fds bs fs code.FileTruncateError h = absurd h
 none-given bytes fds bs fs code.MemFdSealError h = absurd h
 
-none-taken : (bytes : Vec ℕ Global) (fds : Vec ℤ Global) (missing : ℕ) (bs : List ℕ) (fs : List ℤ) (r : Refusal) → TakesNone missing bs fs r → may_answer (Receive bytes fds) (number r) ≡ true
+none-taken : (bytes : Vec ℕ Global) (fds : Vec ℤ Global) (missing : ℕ) (bs : List ℕ) (fs : List ℤ) (r : Refusal) → TakesNone missing bs fs r → is_named (refusals (Receive bytes fds)) (number r) ≡ true
 none-taken bytes fds missing bs fs refusal.TooManyBytes h = refl
 none-taken bytes fds missing bs fs (refusal.Protocol e) h = none-given bytes fds bs fs e h
 none-taken bytes fds missing bs fs refusal.NoSession h = absurd h
@@ -214,7 +215,7 @@ uncut : (s : Session) → IsUncut (endpoint_of s.frontend)
 uncut s = record { uncut = s.uncut; broken = s.broken }
 
 -- an error of the protocol is none of them
-none-early : (e : declared.Error) → is_early (error_number e) ≡ false
+pub none-early : (e : declared.Error) → is_early (error_number e) ≡ false
 none-early code.InvalidParam = refl
 none-early (code.InvalidOperation name) = refl
 none-early (code.InactiveFeature f) = refl
@@ -264,18 +265,18 @@ taken (by.some {s = s} {s' = t} {outcome = o} does) = takes s t o does
 -- ---- read
 
 -- an answer that is not read has another form, or there is no room for it
-not-read : {A : Type 0} (call : ProgramCall) (holds lacks : A → Type 0) (o : Option A) → may_answer call 108 ≡ true → ((a : A) → lacks a → may_answer call 107 ≡ true) → (r : Refusal) → Reads holds lacks o (Err r) → may_answer call (number r) ≡ true
-not-read call holds lacks (Some a) other room r h = subst (λ x. may_answer call (number x) ≡ true) (sym h.0) (room a h.1)
-not-read call holds lacks None other room r h = subst (λ x. may_answer call (number x) ≡ true) (sym h) other
+not-read : {A : Type 0} (call : ProgramCall) (holds lacks : A → Type 0) (o : Option A) → is_named (refusals call) 108 ≡ true → ((a : A) → lacks a → is_named (refusals call) 107 ≡ true) → (r : Refusal) → Reads holds lacks o (Err r) → is_named (refusals call) (number r) ≡ true
+not-read call holds lacks (Some a) other room r h = subst (λ x. is_named (refusals call) (number x) ≡ true) (sym h.0) (room a h.1)
+not-read call holds lacks None other room r h = subst (λ x. is_named (refusals call) (number x) ≡ true) (sym h) other
 
-reads : (call : ProgramCall) (so : FrontendAnswer → Result ⊤ Refusal → Type 0) → may_answer call 0 ≡ true → may_answer call 101 ≡ true → ((a : FrontendAnswer) (r : Refusal) → so a (Err r) → may_answer call (number r) ≡ true) → ((n : ℕ) (old new : Option Session) → new ≡ old → Leaves call n old new)
+reads : (call : ProgramCall) (so : FrontendAnswer → Result ⊤ Refusal → Type 0) → is_named (refusals call) 0 ≡ true → is_named (refusals call) 101 ≡ true → ((a : FrontendAnswer) (r : Refusal) → so a (Err r) → is_named (refusals call) (number r) ≡ true) → ((n : ℕ) (old new : Option Session) → new ≡ old → Leaves call n old new)
     → {n : ℕ} {old new : Option Session} → By (Reading so) old n new → Promises call n old new
 reads call so done absent' named leaves by.none = absent call absent' (leaves 101 None None refl)
 reads call so done absent' named leaves (by.some {s = s} {s' = t} {outcome = Ok u} (told-so, same)) = record { named = done; leaves = λ refused. absurd (refused refl); sound = λ harmless was. subst (λ x. IsSound (Some x)) (sym same) was }
 reads call so done absent' named leaves (by.some {s = s} {s' = t} {outcome = Err r} (told-so, same)) = record { named = named s.answer r told-so; leaves = λ refused. leaves (number r) (Some s) (Some t) (ap Some same); sound = λ harmless was. subst (λ x. IsSound (Some x)) (sym same) was }
 
 -- what is told at once
-told : (call : ProgramCall) → may_answer call 0 ≡ true → (n : ℕ) (old new : Option Session) → n ≡ 0 → new ≡ old → Promises call n old new
+told : (call : ProgramCall) → is_named (refusals call) 0 ≡ true → (n : ℕ) (old new : Option Session) → n ≡ 0 → new ≡ old → Promises call n old new
 told call named n old new is same = promised call n 0 old new is (record { named = named; leaves = λ refused. absurd (refused refl); sound = λ harmless was. subst IsSound (sym same) was })
 
 reads-to : (what : ProgramRead) (p q : Places) (n : ℕ) (old new : Option Session) → ReadsTo what p q old n new → Promises (Read what p) n old new
@@ -302,40 +303,12 @@ promises Take a old new does = taken does
 promises (Read what p) a old new does = reads-to what p a.places a.number old new does
 promises Close a old new (is, gone) = promised Close a.number 0 old new is (record { named = refl; leaves = λ refused. absurd (refused refl); sound = λ harmless was. subst IsSound (sym gone) tt })
 
-calls : {call : ProgramCall} {a : ProgramAnswer} {old new : Option Session} → Does call a old new → IsCalled call a old new
+pub calls : {call : ProgramCall} {a : ProgramAnswer} {old new : Option Session} → Does call a old new → IsCalled call a old new
 calls {call = call} {a = a} {old = old} {new = new} does = let p = promises call a old new does in record { does = does; named = p.named; leaves = p.leaves; sound = p.sound }
 
--- one more call at the end
-then-one : {cs : List ProgramCall} {as' : List ProgramAnswer} {old mid new : Option Session} (call : ProgramCall) (a : ProgramAnswer) → Runs cs as' old mid → IsCalled call a mid new → Runs (cs ++ call ∷ []) (as' ++ a ∷ []) old new
-then-one call a over does = goes_on does over
-then-one call a (goes_on first rest) does = goes_on first (then-one call a rest does)
-
--- the same behind answers that were there
-pub none-yet : (before after : List ProgramAnswer) (s : Option Session) → after ≡ before → Appends [] before after s s
-none-yet before after s is = record { answers = []; appended = is ∙ sym (append-nil before); runs = over }
-
-pub one-more : {cs : List ProgramCall} {before after : List ProgramAnswer} {old mid new : Option Session} (call : ProgramCall) (a : ProgramAnswer) → Appends cs before after old mid → Does call a mid new → Appends (cs ++ call ∷ []) before (after ++ a ∷ []) old new
-one-more {before = before} call a so-far does = record {
-  answers = so-far.answers ++ a ∷ [];
-  appended = ap (λ xs. xs ++ a ∷ []) so-far.appended ∙ append_assoc before so-far.answers (a ∷ []);
-  runs = then-one call a so-far.runs (calls does);
-}
-
-pub from-none : {cs : List ProgramCall} (before after : List ProgramAnswer) {old new : Option Session} → before ≡ [] → Appends cs before after old new → Runs cs after old new
-from-none {cs = cs} before after {old = old} {new = new} bare a = subst (λ (xs : List ProgramAnswer). Runs cs xs old new) (sym (a.appended ∙ ap (λ xs. xs ++ a.answers) bare)) a.runs
-
--- each call is answered
-pub as-many : {cs : List ProgramCall} {as' : List ProgramAnswer} {old new : Option Session} → Runs cs as' old new → length as' ≡ length cs
-as-many over = refl
-as-many (goes_on first rest) = ap suc (as-many rest)
-
-abbrev pub AreHarmless : List ProgramAnswer → Type 0
-AreHarmless as' = All (λ (a : ProgramAnswer). is_harmless a.number ≡ true) as'
-
--- a session that was sound is where each answer is harmless
-pub lives : {cs : List ProgramCall} {as' : List ProgramAnswer} {old new : Option Session} → Runs cs as' old new → AreHarmless as' → IsSound old → IsSound new
-lives over harmless was = was
-lives (goes_on {answer = a} {answers = as'} first rest) harmless was = lives rest (All-tail (λ (a : ProgramAnswer). is_harmless a.number ≡ true) a as' harmless) (first.sound (All-head (λ (a : ProgramAnswer). is_harmless a.number ≡ true) a as' harmless) was)
+-- a session that was sound is after a call whose answer is harmless
+pub keeps-sound : (call : ProgramCall) (a : ProgramAnswer) (old new : Option Session) → IsCalled call a old new → is_harmless a.number ≡ true → IsSound old → IsSound new
+keeps-sound call a old new c harmless was = c.sound harmless was
 
 -- a session that was opened where there was none, or that was not, is sound
 pub fresh : {m n : ℕ} {old new : Option Session} → Opens m old n new → old ≡ None → IsSound new
@@ -376,7 +349,7 @@ left (SetProfile p) n ends l = as-was l
 left (Read what p) n ends l = as-was l
 
 -- calls that are refused, none of which takes or closes, leave a session
-pub in-vain : {cs : List ProgramCall} {as' : List ProgramAnswer} {old new : Option Session} → Runs cs as' old new → All (λ (c : ProgramCall). ends_none c ≡ true) cs → All (λ (a : ProgramAnswer). a.number ≢ 0) as' → AtBoth Stays old new
+pub in-vain : {cs : List ProgramCall} {as' : List ProgramAnswer} {old new : Option Session} → Runs IsCalled cs as' old new → All (λ (c : ProgramCall). ends_none c ≡ true) cs → All (λ (a : ProgramAnswer). a.number ≢ 0) as' → AtBoth Stays old new
 in-vain (over {session = s}) ends vain = at-none s
 in-vain (goes_on {call = c} {answer = a} {calls = cs} {answers = as'} first rest) ends vain =
     let now = All-head (λ (c : ProgramCall). ends_none c ≡ true) c cs ends in

@@ -34,13 +34,14 @@ use Rattle.vhost_frontend_core.specs.ValueHalves.{TakesResult}
 use Rattle.vhost_c_common.specs.Number.{error_number}
 use Rattle.vhost_c_common.specs.View.{End, IsUncut}
 use Rattle.vhost_c_common.proofs.Wants.{IsWant, list_away, by_link, broke_before, failed}
-use Rattle.vhost_c.specs.Program.{may_answer}
+use Rattle.vhost_c.specs.Calls.{is_named}
+use Rattle.vhost_c.specs.Program.{refusals}
 use Rattle.vhost_c.specs.declared.program.ProgramCall.TheVariants.{Take}
 use Rattle.vhost_c.proofs.AskRefusals.{seen_number, is-seen}
 
 -- a number that taking may answer
 abbrev pub IsOfTake : ℕ → Type 0
-IsOfTake n = may_answer Take n ≡ true
+IsOfTake n = is_named (refusals Take) n ≡ true
 
 abbrev Fine : {A : Type 0} → Result A Error → Type 0
 Fine (Ok a) = ⊤

@@ -7,7 +7,12 @@ pub mod Device
 pub mod Display
 pub mod Holder
 pub mod Incoming
+pub mod Calls
 pub mod Program
+pub mod ProgramBackend
+pub mod ProgramChannel
+pub mod ProgramDisplay
+pub mod ProgramServer
 pub mod Joined
 pub mod Judged
 pub mod Records

@@ -1,6 +1,5 @@
 -- What the calls of any program in C do to a frontend's session, one after another, in any order.
-use Rattle.std.specs.Prelude.{◌≡◌, ◌≢◌, ℕ, Bool, true, false, not, ◌||◌, ◌==◌, List, [], ◌∷◌, ◌++◌, Option, Some, None, ⊤}
-use Rattle.std.specs.List.{list_any}
+use Rattle.std.specs.Prelude.{◌≡◌, ◌≢◌, ℕ, Bool, true, false, not, ◌||◌, ◌==◌, List, [], ◌∷◌, Option, Some, None, ⊤}
 use Rattle.vhost_message.specs.declared.error.Error.TheVariants.{InvalidParam, InvalidMessage, PartialMessage, IncorrectFds, BackendInternalError, OutOfMemory}
 use Rattle.vhost_frontend_core.specs.Frontend.{endpoint_of}
 use Rattle.vhost_frontend_core.specs.Values.{call_of}
@@ -9,9 +8,10 @@ use Rattle.vhost_c_common.specs.Number.{number, error_number}
 use Rattle.vhost_c_common.specs.Profile.{profile_at}
 use Rattle.vhost_c_common.specs.declared.refusal.Refusal.TheVariants.{NoSession, SessionOpen, NotTaken, NothingAsked, NotYet, TooManyBytes, NoRoom, OtherAnswer}
 use Rattle.vhost_c.specs.Answers.{ReadsNumber, ReadsBases, ReadsConfig, ReadsFd, ReadsInflight, ReadsShmem}
+use Rattle.vhost_c.specs.Calls.{AtBoth, inactive_feature, inactive_operation, is_named, socket_broken, socket_retry}
 use Rattle.vhost_c.specs.Session.{Opens, ChoosesBy, AsksBy, RejectsBy, Sending, Receiving, Takes, Reading, Stays, missing_at, inactive_at, view}
-use Rattle.vhost_c.specs.declared.program.Places.{Places}
-use Rattle.vhost_c.specs.declared.program.ProgramAnswer.{ProgramAnswer}
+use Rattle.vhost_c.specs.declared.places.Places.{Places}
+use Rattle.vhost_c.specs.declared.places.ProgramAnswer.{ProgramAnswer}
 use Rattle.vhost_c.specs.declared.program.ProgramCall.{ProgramCall}
 use Rattle.vhost_c.specs.declared.program.ProgramCall.TheVariants.{Open, SetProfile, Ask, AskInvalid, AskWithoutMemory, ToSend, Receive, Take, Read, Close}
 use Rattle.vhost_c.specs.declared.program.ProgramRead.{ProgramRead}
@@ -44,19 +44,6 @@ Does Close a old new = (a.number ≡ 0) × (new ≡ None)
 
 -- ---- what a call may answer
 
--- the numbers of `enum covretin_error` of errors that say more
-abbrev pub inactive_feature : ℕ
-inactive_feature = 3
-
-abbrev pub inactive_operation : ℕ
-inactive_operation = 4
-
-abbrev pub socket_broken : ℕ
-socket_broken = 15
-
-abbrev pub socket_retry : ℕ
-socket_retry = 16
-
 -- the numbers of the refusals of what reads: a list may have no room
 abbrev pub read_refusals : ProgramRead → List ℕ
 read_refusals Missing = []
@@ -82,16 +69,7 @@ refusals Take = number NoSession ∷ number NothingAsked ∷ number NotYet ∷ e
 refusals (Read what p) = read_refusals what
 refusals Close = []
 
--- a call answers 0, or one of them
-abbrev pub may_answer : ProgramCall → ℕ → Bool
-may_answer call n = n == 0 || list_any (λ m. n == m) (refusals call)
-
 -- ---- what a refusal leaves
-
--- A session is there before and after, and this is so of both; or there is none.
-pub data AtBoth (So : Session → Session → Type 0) : Option Session → Option Session → Type 0 where
-  none : AtBoth So None None
-  some : {old new : Session} → So old new → AtBoth So (Some old) (Some new)
 
 -- All that the contracts see is as before.
 abbrev pub IsAlike : Session → Session → Type 0
@@ -139,22 +117,11 @@ IsSound (Some s) = (endpoint_of s.frontend).broken ≡ None
 abbrev pub is_harmless : ℕ → Bool
 is_harmless n = not (n == socket_retry || n == error_number InvalidMessage)
 
--- ---- one call, and all
+-- ---- one call
 
 -- A call of a program, whatever the program called before: it does what its contract says, answers 0 or one of its refusals, leaves the session so where it refuses, and breaks none where its answer is harmless.
 pub record IsCalled (call : ProgramCall) (answer : ProgramAnswer) (old new : Option Session) : Type 0 where
   pub does : Does call answer old new
-  pub named : may_answer call answer.number ≡ true
+  pub named : is_named (refusals call) answer.number ≡ true
   pub leaves : answer.number ≢ 0 → Leaves call answer.number old new
   pub sound : is_harmless answer.number ≡ true → IsSound old → IsSound new
-
--- Calls of a program, one after another, with their answers: each goes on from the session that the one before left.
-pub data Runs : List ProgramCall → List ProgramAnswer → Option Session → Option Session → Type 0 where
-  over : {session : Option Session} → Runs [] [] session session
-  goes_on : {call : ProgramCall} {answer : ProgramAnswer} {calls : List ProgramCall} {answers : List ProgramAnswer} {old mid new : Option Session} → IsCalled call answer old mid → Runs calls answers mid new → Runs (call ∷ calls) (answer ∷ answers) old new
-
--- The same, with the answers behind those that were there.
-pub record Appends (calls : List ProgramCall) (before after : List ProgramAnswer) (old new : Option Session) : Type 0 where
-  pub answers : List ProgramAnswer
-  pub appended : after ≡ before ++ answers
-  pub runs : Runs calls answers old new

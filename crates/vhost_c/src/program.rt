@@ -2,7 +2,8 @@
 
 ghost use Rattle.std.specs.Prelude.{◌≡◌, ◌≢◌, ◌<◌, ◌+◌, true, All, None, IfOk, IfErr, length, vec_len, vec_capacity};
 ghost use Rattle.vhost_c_common.specs.ByNumber.{By};
-ghost use Rattle.vhost_c.specs.Program.{Does, ReadsTo, Appends, AtBoth, IsSound, is_harmless, ends_none};
+ghost use Rattle.vhost_c.specs.Calls.{Appends, AtBoth};
+ghost use Rattle.vhost_c.specs.Program.{Does, IsCalled, ReadsTo, IsSound, is_harmless, ends_none};
 ghost use Rattle.vhost_c.specs.Session.{Sending, Stays};
 
 use crate::answers::{
@@ -15,26 +16,11 @@ use crate::moving::{
     covretin_inactive, covretin_missing, covretin_receive, covretin_take, covretin_to_send,
 };
 use crate::opening::{covretin_close, covretin_open};
+use crate::places::{Places, ProgramAnswer, bare};
 use crate::profile::covretin_set_profile;
 use std::alloc::{AllocError, Global};
-use vhost_c_common::{Config, Inflight};
 use vhost_frontend_core::FrontendCall;
 use vhost_message::Error;
-
-/// The places of a program that its calls write to, each to its own.
-#[derive(Drop)]
-pub struct Places {
-    pub bytes: Vec<u8>,
-    pub fds: Vec<i32>,
-    pub numbers: Vec<u64>,
-    pub byte_count: usize,
-    pub fd_count: usize,
-    pub count: usize,
-    pub number: u64,
-    pub fd: i32,
-    pub config: Config,
-    pub inflight: Inflight,
-}
 
 /// What a call reads, and tells at the program's places.
 #[derive(Clone, Copy)]
@@ -71,13 +57,6 @@ pub enum ProgramCall {
     Close,
 }
 
-/// What a call answers: its number, of `enum covretin_error`, and its places then.
-#[derive(Drop)]
-pub struct ProgramAnswer {
-    pub number: u32,
-    pub places: Places,
-}
-
 /// Makes calls, one after another, whatever each answers, and appends their answers to `answers`.
 ///
 /// AllocError: `answers` could not grow, and no call was made.
@@ -87,7 +66,7 @@ pub fn run(
     calls: Vec<ProgramCall>,
     answers: &mut Vec<ProgramAnswer>,
 ) -> Result<(), AllocError>
-    ensures runs { IfOk result (λ _. Appends calls.items answers.old.items answers.new.items session.old.session session.new.session) }
+    ensures runs { IfOk result (λ _. Appends IsCalled calls.items answers.old.items answers.new.items session.old.session session.new.session) }
     ensures memory { IfErr result (λ _. (session.new.session ≡ session.old.session) × (answers.new.items ≡ answers.old.items)) }
     ensures room { IfErr result (λ _. vec_capacity answers.old < vec_len answers.old + length calls.items) }
 {
@@ -177,36 +156,6 @@ fn read_to(alloc: Global, session: &mut Holder, what: ProgramRead, at: &mut Plac
             covretin_answer_shmem(alloc, session, &mut at.numbers, &mut at.count)
         }
     }
-}
-
-/// The answer of a call that writes to no place.
-fn bare(alloc: Global, number: u32) -> ProgramAnswer
-    ensures { result.number ≡ number }
-{
-    let config = Config {
-        offset: 0,
-        size: 0,
-        flags: 0,
-    };
-    let inflight = Inflight {
-        mmap_size: 0,
-        mmap_offset: 0,
-        num_queues: 0,
-        queue_size: 0,
-    };
-    let places = Places {
-        bytes: Vec::new(alloc),
-        fds: Vec::new(alloc),
-        numbers: Vec::new(alloc),
-        byte_count: 0,
-        fd_count: 0,
-        count: 0,
-        number: 0,
-        fd: 0,
-        config,
-        inflight,
-    };
-    ProgramAnswer { number, places }
 }
 
 /// A session is opened, and a program makes any calls. Each is answered; and where there was no session before, and each

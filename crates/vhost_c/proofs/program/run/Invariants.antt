@@ -1,11 +1,12 @@
 use Rattle.std.proofs.Common.{◌≡◌, ◌+◌, ◌≤◌, ◌++◌, vec_len, vec_capacity}
 use Rattle.std.specs.Vec.Iter.{into_iter_items, into_iter_len}
-use Rattle.vhost_c.specs.Program.{Appends}
+use Rattle.vhost_c.specs.Calls.{Appends}
+use Rattle.vhost_c.specs.Program.{IsCalled}
 use Rattle.vhost_c.proofs.program.run.Given as goal
 
 abbrev pub invariant-loop-call : goal.invariant-loop-call
 invariant-loop-call l = record {
-  ran : Appends l.yielded l.fn.answers.items l.answers.items l.fn.session.session l.session.session;
+  ran : Appends IsCalled l.yielded l.fn.answers.items l.answers.items l.fn.session.session l.session.session;
   front : l.fn.calls.items ≡ l.yielded ++ into_iter_items l.call-iterator;
   room : vec_len l.answers + into_iter_len l.call-iterator ≤ vec_capacity l.answers;
 }
