@@ -121,7 +121,7 @@ static enum covretin_error take_reply(void *of)
     return covretin_take(of);
 }
 
-static const struct transport_side side = {missing, receive, to_send, take_reply, false, false, NULL, NULL};
+static const struct transport_side side = {missing, receive, to_send, NULL, take_reply, false, false, NULL, NULL};
 
 static void show_text(const struct text *text)
 {

@@ -216,7 +216,7 @@ static enum covretin_error serve_other(void *session, const struct serving_hook 
 }
 
 static const struct serving_side backend_side = {
-    {backend_missing, backend_receive, backend_to_send, NULL, true, false, backend_open, backend_close}, next, end, ended,
+    {backend_missing, backend_receive, backend_to_send, backend_unclaimed, NULL, true, false, backend_open, backend_close}, next, end, ended,
     COVRETIN_CALL_OTHER, serve_other};
 
 /* -- Frontends -- */

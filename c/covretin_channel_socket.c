@@ -9,7 +9,7 @@ TRANSPORT_BYTES(channel, covretin_channel)
 TRANSPORT_TAKES(channel, covretin_channel)
 TRANSPORT_OPENS(channel, covretin_channel)
 
-static const struct transport_side channel_side = {channel_missing, channel_receive, channel_to_send, channel_take,
+static const struct transport_side channel_side = {channel_missing, channel_receive, channel_to_send, channel_unclaimed, channel_take,
                                                    false, true, channel_open, channel_close};
 
 enum covretin_error covretin_channel_connect_fd(covretin_channel_connection *connection, int fd)
@@ -63,7 +63,7 @@ static enum covretin_error end(void *server)
 }
 
 static const struct serving_side server_side = {
-    {server_missing, server_receive, server_to_send, NULL, true, false, server_open, server_close}, next, end, NULL, 0, NULL};
+    {server_missing, server_receive, server_to_send, server_unclaimed, NULL, true, false, server_open, server_close}, next, end, NULL, 0, NULL};
 
 enum covretin_error covretin_channel_serve_fd(covretin_channel_service *service, int fd)
 {

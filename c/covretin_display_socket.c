@@ -9,7 +9,7 @@ TRANSPORT_BYTES(display, covretin_display)
 TRANSPORT_TAKES(display, covretin_display)
 TRANSPORT_OPENS(display, covretin_display)
 
-static const struct transport_side display_side = {display_missing, display_receive, display_to_send, display_take,
+static const struct transport_side display_side = {display_missing, display_receive, display_to_send, display_unclaimed, display_take,
                                                    false, true, display_open, display_close};
 
 enum covretin_error covretin_display_connect_fd(covretin_display_connection *connection, int fd)

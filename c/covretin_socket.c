@@ -25,7 +25,7 @@ struct exchange {
 TRANSPORT_BYTES(frontend, covretin)
 TRANSPORT_TAKES(frontend, covretin)
 
-static const struct transport_side frontend_side = {frontend_missing, frontend_receive, frontend_to_send, frontend_take,
+static const struct transport_side frontend_side = {frontend_missing, frontend_receive, frontend_to_send, frontend_unclaimed, frontend_take,
                                                     false, false, NULL, NULL};
 
 /* -- The reply -- */

@@ -121,6 +121,17 @@ static void close_came(struct transport *transport)
     transport->untold = 0;
 }
 
+/* Lets the session hand out what nobody will claim: it is closed here. */
+static void forget_unclaimed(struct transport *transport)
+{
+    int32_t fds[COVRETIN_MAX_FDS];
+    size_t count = transport->told && transport->side->unclaimed != NULL;
+    while (count != 0)
+        if (transport->side->unclaimed(transport->session, fds, COVRETIN_MAX_FDS, &count))
+            count = 0;
+    transport->told = false;
+}
+
 bool transport_claim(struct transport *transport, int32_t fd)
 {
     for (size_t i = 0; fd >= 0 && i < transport->came_count; i++)
@@ -134,6 +145,7 @@ bool transport_claim(struct transport *transport, int32_t fd)
 void transport_next(struct transport *transport)
 {
     close_came(transport);
+    forget_unclaimed(transport);
     transport->begun = false;
 }
 
@@ -332,6 +344,9 @@ static enum covretin_error hand_in(struct transport *transport, size_t missing)
         transport->side->receive(transport->session, transport->bytes + transport->at, part, fds, count);
     if (error)
         return error;
+    transport->told |= count != 0;
+    if (transport->late_count != 0)
+        forget_unclaimed(transport);
     close_all(transport->late, &transport->late_count);
     transport->untold = 0;
     transport->at += part;

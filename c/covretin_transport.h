@@ -12,6 +12,7 @@ struct transport_side {
     enum covretin_error (*receive)(void *session, const uint8_t *bytes, size_t bytes_len, const int32_t *fds, size_t fds_len);
     enum covretin_error (*to_send)(void *session, uint8_t *bytes, size_t bytes_len, int32_t *fds, size_t fds_len, size_t *byte_count,
                                    size_t *fd_count);
+    enum covretin_error (*unclaimed)(void *session, int32_t *fds, size_t fds_len, size_t *count); /* NULL where it keeps none */
     enum covretin_error (*take)(void *session); /* the reply; NULL where it serves */
     bool hears_late;                            /* is told of descriptors that come amid a message, too */
     bool is_given;                              /* its socket came from the peer, who may go on with it */
@@ -33,6 +34,10 @@ struct transport_side {
                                               size_t *byte_count, size_t *fd_count) \
     { \
         return calls##_to_send(session, bytes, bytes_len, fds, fds_len, byte_count, fd_count); \
+    } \
+    static enum covretin_error name##_unclaimed(void *session, int32_t *fds, size_t fds_len, size_t *count) \
+    { \
+        return calls##_unclaimed(session, fds, fds_len, count); \
     }
 #define TRANSPORT_TAKES(name, calls) \
     static enum covretin_error name##_take(void *session) \
@@ -71,6 +76,7 @@ struct transport {
     size_t came_count;
     int32_t late[COVRETIN_MAX_FDS]; /* with a later one; closed once the session was told */
     size_t late_count;
+    bool told;     /* the session was told of some, of which it hands out what nobody claims */
     size_t untold; /* how many of those that came the session was not told of yet: all, or none */
 };
 

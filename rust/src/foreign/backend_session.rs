@@ -15,7 +15,8 @@ const SHMEM_REGIONS: usize = 256;
 
 sessions! {
     /// A backend's session.
-    BackendSession: covretin_backend_close, covretin_backend_missing, covretin_backend_receive, covretin_backend_to_send;
+    BackendSession: covretin_backend_close, covretin_backend_missing, covretin_backend_receive, covretin_backend_to_send,
+        covretin_backend_unclaimed;
 }
 
 calls! {

@@ -18,10 +18,11 @@ pub(crate) struct Mmap {
 
 sessions! {
     /// A device's session on the backend channel.
-    ChannelSession: covretin_channel_close, covretin_channel_missing, covretin_channel_receive, covretin_channel_to_send;
+    ChannelSession: covretin_channel_close, covretin_channel_missing, covretin_channel_receive, covretin_channel_to_send,
+        covretin_channel_unclaimed;
     /// A frontend's session on the backend channel.
     ChannelServer: covretin_channel_server_close, covretin_channel_server_missing, covretin_channel_server_receive,
-        covretin_channel_server_to_send;
+        covretin_channel_server_to_send, covretin_channel_server_unclaimed;
 }
 
 calls! {

@@ -11,7 +11,8 @@ use crate::vhost_user::gpu_message::{
 
 sessions! {
     /// A device's session on the vhost-user-gpu channel.
-    DisplaySession: covretin_display_close, covretin_display_missing, covretin_display_receive, covretin_display_to_send;
+    DisplaySession: covretin_display_close, covretin_display_missing, covretin_display_receive, covretin_display_to_send,
+        covretin_display_unclaimed;
 }
 
 calls! {

@@ -38,6 +38,8 @@ pub(crate) trait Moves {
     fn receive(&mut self, bytes: &[u8], fds: &[RawFd]) -> Outcome;
     /// How many bytes and descriptors are to be sent: from the start of each list on.
     fn next_to_send(&mut self, bytes: &mut [u8; MAX_MESSAGE], fds: &mut [RawFd; MAX_FDS]) -> Result<(usize, usize), Code>;
+    /// Lets it hand out which descriptors nobody claims: whoever received them closes them.
+    fn forget_unclaimed(&mut self);
 }
 
 /// A session that asks: each call is taken once its reply has come.
@@ -67,7 +69,7 @@ pub(crate) trait Serves: Moves {
 
 /// Types of sessions, which are closed when they are dropped, by the names of these calls.
 macro_rules! sessions {
-    ($($(#[$doc:meta])* $Name:ident: $close:ident, $missing:ident, $receive:ident, $to_send:ident;)*) => {$(
+    ($($(#[$doc:meta])* $Name:ident: $close:ident, $missing:ident, $receive:ident, $to_send:ident, $unclaimed:ident;)*) => {$(
         extern "C" {
             fn $close(session: &mut Raw);
             fn $missing(session: &mut Raw) -> usize;
@@ -81,6 +83,7 @@ macro_rules! sessions {
                 byte_count: &mut usize,
                 fd_count: &mut usize,
             ) -> u32;
+            fn $unclaimed(session: &mut Raw, fds: *mut i32, fds_len: usize, count: &mut usize) -> u32;
         }
 
         $(#[$doc])*
@@ -120,6 +123,13 @@ macro_rules! sessions {
                     $to_send(&mut self.0, room, bytes.len(), places, fds.len(), &mut byte_count, &mut fd_count)
                 })?;
                 Ok((byte_count, fd_count))
+            }
+
+            fn forget_unclaimed(&mut self) {
+                let mut fds = [-1; MAX_FDS];
+                let mut count = 1;
+                // SAFETY: as above.
+                while count != 0 && unsafe { $unclaimed(&mut self.0, fds.as_mut_ptr(), fds.len(), &mut count) } == 0 {}
             }
         }
 

@@ -56,7 +56,7 @@ pub(crate) struct Config {
 
 sessions! {
     /// A frontend's session.
-    Session: covretin_close, covretin_missing, covretin_receive, covretin_to_send;
+    Session: covretin_close, covretin_missing, covretin_receive, covretin_to_send, covretin_unclaimed;
 }
 
 calls! {

@@ -418,6 +418,8 @@ enum Given {
 /// Gives a request to the session, whose descriptors are those of another: what it asks of the device.
 fn next_call(session: &mut BackendSession, bytes: &[u8], request: &Message) -> Result<u32, Code> {
     let (head, body) = bytes.split_at(HEADER);
+    // (those of the requests before)
+    session.forget_unclaimed();
     session.receive(head, &stand_ins(request.own_fds()))?;
     // (none of an invalid header)
     let body = &body[..session.missing().min(body.len())];

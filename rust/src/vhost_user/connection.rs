@@ -89,6 +89,7 @@ impl<S: Asks> Connection<S> {
             Err(Unsent::Part(error)) => return Err(self.break_by(error)),
         };
         let (fds, is_last) = self.receive_all(sent, end).map_err(|error| self.break_by(error))?;
+        let has_fds = !fds.is_empty();
         let taken = match take(&mut self.session) {
             Ok(value) => {
                 self.broken = None;
@@ -98,6 +99,9 @@ impl<S: Asks> Connection<S> {
         };
         if !is_last {
             self.broken = Some(libc::EPROTO);
+        }
+        if has_fds {
+            self.session.forget_unclaimed();
         }
         taken
     }

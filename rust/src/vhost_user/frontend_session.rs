@@ -98,6 +98,10 @@ impl Moves for FrontendSession {
     fn next_to_send(&mut self, bytes: &mut [u8; MAX_MESSAGE], fds: &mut [RawFd; MAX_FDS]) -> Result<(usize, usize), Code> {
         self.session.next_to_send(bytes, fds)
     }
+
+    fn forget_unclaimed(&mut self) {
+        self.session.forget_unclaimed();
+    }
 }
 
 impl Asks for FrontendSession {

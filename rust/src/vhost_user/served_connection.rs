@@ -3,7 +3,7 @@
 use std::os::unix::io::{AsRawFd, RawFd};
 use std::os::unix::net::UnixStream;
 use std::time::Duration;
-use std::{io, result};
+use std::{io, mem::take, result};
 
 use super::transport::{broken_by, end_after, error_of, last_error, receive_ready, send_all, take_from};
 use super::{Error, Result};
@@ -25,6 +25,8 @@ pub(super) struct ServedConnection<S: Serves> {
     bytes: Box<[u8; MAX_MESSAGE]>,
     /// What came with the first byte of the request that is received or served, and was not claimed.
     fds: Vec<PeerFd>,
+    /// Whether some came with it.
+    has_fds: bool,
     /// Whether a part of a request has come that was neither replied to nor refused.
     has_begun: bool,
     /// The first bytes of the request that came last, of its number.
@@ -44,6 +46,7 @@ impl<S: Serves> ServedConnection<S> {
             send_timeout,
             bytes,
             fds: Vec::new(),
+            has_fds: false,
             has_begun: false,
             code: Vec::new(),
             broken: None,
@@ -154,9 +157,11 @@ impl<S: Serves> ServedConnection<S> {
             }
             // The session was told of descriptors behind the first byte, and names none of them: however many a peer sends, those
             // are closed here.
-            if self.has_begun {
+            if self.has_begun && self.fds.len() > kept {
                 self.fds.truncate(kept);
+                self.session.forget_unclaimed();
             }
+            self.has_fds |= !self.fds.is_empty();
             self.has_begun = true;
         }
     }
@@ -174,6 +179,9 @@ impl<S: Serves> ServedConnection<S> {
     fn end_request(&mut self) {
         self.fds.clear();
         self.has_begun = false;
+        if take(&mut self.has_fds) {
+            self.session.forget_unclaimed();
+        }
     }
 
     /// What it means that the stream ended here. Between two requests it can be asked again.
