@@ -219,6 +219,44 @@ fn a_wrong_reply_is_told_and_passed_on() {
     });
 }
 
+/// A frontend says that it mapped regions, and asks for an acknowledgement: the backend refuses, and is not wrong.
+#[test]
+fn mapped_regions_that_are_refused() {
+    counted(|| {
+        let tap = Tap::of(Some(1));
+        let (frontend, backend) = tap.ends();
+        let ask = |request: Vec<u8>| {
+            frontend.say(&request, &[]);
+            backend.hear(&request);
+        };
+        let reply = |code: u32, body: &[u8], files: &[&File]| {
+            let reply = message(code, REPLIES, body);
+            backend.say(&reply, files);
+            let mut came = vec![0; reply.len()];
+            for byte in came.chunks_mut(1) {
+                receive(&frontend.socket, byte);
+            }
+            assert_eq!(reply, came);
+        };
+        ask(message(1, ASKS, &[]));
+        reply(1, &PROTOCOL.to_le_bytes(), &[]);
+        ask(message(2, ASKS, &PROTOCOL.to_le_bytes()));
+        ask(message(15, ASKS, &[]));
+        reply(15, &0x108u64.to_le_bytes(), &[]);
+        ask(message(16, ASKS, &0x108u64.to_le_bytes()));
+        ask(message(28, ASKS, &[]));
+        reply(28, &[], &[&memory_file()]);
+        ask(message(29, ASKS | 8, &[]));
+        reply(29, &[0; 8], &[]);
+        ask(message(5, ASKS | 8, &[0; 8]));
+        reply(5, &1u64.to_le_bytes(), &[]);
+        drop((frontend, backend));
+        let (shown, found) = tap.end();
+        assert_eq!(Vec::<String>::new(), found);
+        assert!(shown.contains("\n= refused by the table 0, by the backend 1\n"), "{shown}");
+    });
+}
+
 /// A frontend that sends a byte at a time, and waits between them: what came is passed on before the rest is there.
 #[test]
 fn a_message_in_pieces() {

@@ -248,7 +248,11 @@ impl Judge {
 
     /// The session asks the device something: what its frontend awaits.
     fn asked(&mut self, session: &mut BackendSession, call: u32, request: &Message) -> Result<Option<Owed>, Code> {
-        let form = form_of(session, call)?;
+        let form = match form_of(session, call)? {
+            // (whoever waits is answered)
+            Form::Nothing if self.profile == Profile::Standard => Form::Done,
+            form => form,
+        };
         if request.request() == Some(FrontendReq::SET_PROTOCOL_FEATURES) {
             self.agreed.protocol = session.number()?;
         }
