@@ -5,6 +5,21 @@ import os
 import re
 import subprocess
 
+# What the sessions for C are compiled with beside the checker's words, so that a call of theirs is few functions from its export on: between
+# functions values are copied from place to place. Both sessions' round trip of GET_FEATURES takes 4,012 instructions without this, and
+# covretin has 185 KB of code; with it 2,799 and 614 KB. A threshold of 1,000: 3,414 and 237 KB; of 20,000: 2,601 and 840 KB, and no faster
+# by the clock.
+INLINED = " ".join(
+    f"-mllvm -{it}"
+    for it in (
+        "inline-threshold=5000",
+        "dse-memoryssa-scanlimit=2000",
+        "dse-memoryssa-walklimit=2000",
+        "memssa-check-limit=2000",
+        "memdep-block-scan-limit=1000",
+    )
+)
+
 # Keeps the words of each call, and the files that they name, in a folder by its number. The checker calls it with no environment.
 COMPILER = '''#!/bin/sh
 n=$(/bin/ls "{folder}/kept" | /usr/bin/wc -l)
@@ -27,14 +42,15 @@ def keeping(theirs, folder, flags=""):
     os.chmod(f"{folder}/bin/clang", 0o755)
 
 
-def assembly(theirs, folder):
-    """What the last call compiled, as assembly for any place in memory. For aarch64 there are two calls, and the second is of the module."""
+def assembly(theirs, folder, flags=""):
+    """What the last call compiled, as assembly for any place in memory, with the flags that it had. For aarch64 there are two calls, and the
+    second is of the module."""
     kept = f"{folder}/kept/{max(map(int, os.listdir(f'{folder}/kept')))}"
     with open(f"{kept}/words", encoding="utf-8") as it:
         words = it.read().split("\n")[:-1]
     words = [f"--sysroot={theirs}" if it.startswith("--sysroot=") else {"-c": "-S", "module.o": "module.s"}.get(it, it) for it in words]
     # (comments would double the size, and a table of addresses says nothing to a linker of another toolchain)
-    subprocess.run([f"{theirs}/bin/clang", *words, "-fPIC", "-fno-verbose-asm", "-fno-addrsig"], cwd=kept, check=True)
+    subprocess.run([f"{theirs}/bin/clang", *flags.split(), *words, "-fPIC", "-fno-verbose-asm", "-fno-addrsig"], cwd=kept, check=True)
     with open(f"{kept}/module.s", encoding="utf-8") as it:
         return named(it.read())
 

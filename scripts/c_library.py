@@ -20,7 +20,7 @@ import sys
 import tempfile
 import time
 
-from assembly import assembly, keeping
+from assembly import INLINED, assembly, keeping
 from verdict import LISTING, verdict_of
 
 TOP = os.path.dirname(os.path.dirname(os.path.abspath(__file__)))
@@ -119,14 +119,14 @@ def build(kit, uses, names):
     # (`rt` refuses a crate's folder that has links)
     with tempfile.TemporaryDirectory() as room:
         if is_built:
-            keeping(f"{kit}/toolchain", f"{room}/toolchain")
+            keeping(f"{kit}/toolchain", f"{room}/toolchain", INLINED)
             said, is_built = over_libraries(kit, uses, ARCHIVE, f"{room}/toolchain")
         verdict = verdict_of(said)
         if not is_built or not verdict:
             print(said, end="", file=sys.stderr)
             stop("not proved, or not built")
         with open(ASSEMBLY, "w", encoding="utf-8") as it:
-            it.write(assembly(f"{kit}/toolchain", f"{room}/toolchain"))
+            it.write(assembly(f"{kit}/toolchain", f"{room}/toolchain", INLINED))
     with open(VERDICT, "w", encoding="utf-8") as it:
         it.write(verdict)
 

@@ -24,7 +24,7 @@ import subprocess
 import sys
 import tempfile
 
-from assembly import assembly, keeping
+from assembly import INLINED, assembly, keeping
 from build import TOP, crates_below, dependencies, kit
 from verdict import LISTING, verdict_of
 
@@ -123,7 +123,8 @@ def prove(name, room):
     kit_folder, folder = kit(), f"{room}/toolchain"
     # (of a program the checker makes an object)
     made = f"{room}/made.{'o' if os.path.isfile(f'{TOP}/crates/{crate}/src/main.rt') else 'a'}"
-    keeping(f"{kit_folder}/toolchain", folder)
+    flags = INLINED if crate == "vhost_c" else ""
+    keeping(f"{kit_folder}/toolchain", folder, flags)
     words = [f"{kit_folder}/bin/rattle", "build", *words_of(crate, kit_folder, of, folder, made)]
     how = {"stdin": subprocess.DEVNULL, "stdout": subprocess.PIPE, "stderr": subprocess.STDOUT}
     ran = subprocess.run(words, cwd=f"{TOP}/crates/{crate}", text=True, errors="replace", check=False, **how)
@@ -131,7 +132,7 @@ def prove(name, room):
     if ran.returncode or not verdict:
         print(ran.stdout, end="", file=sys.stderr)
         stop(f"{name} was not proved, or not built")
-    return made, assembly(f"{kit_folder}/toolchain", folder), verdict
+    return made, assembly(f"{kit_folder}/toolchain", folder, flags), verdict
 
 
 def proved(name, room):

@@ -4,8 +4,9 @@
 
   scripts/same_code.py MADE FILE.s     MADE is libvhost_c.a of the checker, or an object
 
-Each section of code is compared instruction by instruction, with its relocations, but for the padding between functions, of which
-assemblers choose forms of their own; each section of data byte by byte. A function's labels have a number in the one and a name in the
+Each section of code is compared instruction by instruction, with its relocations, but for the padding between functions and before
+loops, of which assemblers choose forms of their own; each section of data byte by byte, but for tables of jumps, by which instructions they
+go to. A function's labels have a number in the one and a name in the
 other, so that each number has to stand for one name, and each name for one number. It prints the first difference of each section, and last how
 much was compared. Status 0 where both are the same, 1 where not, 2 after wrong arguments. CC, OBJDUMP and AR name other tools.
 """
@@ -24,6 +25,10 @@ INSTRUCTION = re.compile(r"^\s*([0-9a-f]+):\t(.*?)\s*$")
 # Where a jump goes, as objdump shows it, and a comment that has an address.
 TARGET = re.compile(r"\b([0-9a-f]+) <.*>$")
 COMMENT = re.compile(r"\s+# [0-9a-f]+ <.*>$")
+
+# A table of jumps, as code names it, four bytes behind the place of that name; and an entry, which has the distance from its table.
+TABLE = re.compile(r"R_X86_64_PC32 (\.rodata.*?)([+-]0x[0-9a-f]+)$")
+ENTRY = re.compile(r"^([0-9a-f]+) R_X86_64_PC32 +(\.text.*)\+(0x[0-9a-f]+)$")
 
 DATA = (".rodata", ".data.", ".tdata", ".init_array")
 
@@ -44,7 +49,8 @@ def parts(text, title):
 
 
 def instructions(lines):
-    """The instructions and relocations of a section, where a jump goes to an instruction's number, by which padding does not count."""
+    """The instructions and relocations of a section, where a jump goes to an instruction's number, by which padding does not count; and the
+    number at each address."""
     found, at = [], {}
     for line in lines:
         relocation, instruction = RELOCATION.match(line), INSTRUCTION.match(line)
@@ -61,18 +67,30 @@ def instructions(lines):
     target = lambda text: TARGET.sub(lambda it: f"to {at.get(int(it[1], 16))}", text)
     # (of a local function the two relocations are the same)
     same = lambda behind: re.sub(r"\s+", " ", behind).replace("R_X86_64_PLT32", "R_X86_64_PC32")
-    return [f"{target(text)}\t{same(behind)}".strip() for text, behind in found]
+    return [f"{target(text)}\t{same(behind)}".strip() for text, behind in found], at
+
+
+def goes_to(line, tables, numbers):
+    """An entry of a table of jumps by the instruction that it goes to; any other line as it is."""
+    entry = ENTRY.match(line.strip())
+    table = max((it for it in tables if it <= int(entry[1], 16)), default=None) if entry else None
+    if table is None:
+        return line
+    number = numbers.get(entry[2], {}).get(int(entry[3], 16) - (int(entry[1], 16) - table))
+    return line if number is None else f"{entry[1]} goes to {number} of {entry[2]}"
 
 
 def sections(made):
     """What is in each section of code and of data of an object."""
-    found = {}
+    found, numbers, tables = {}, {}, {}
     for name, lines in parts(said(OBJDUMP, "-drw", "--no-show-raw-insn", made), "Disassembly of section "):
-        found[name] = instructions(lines)
+        found[name], numbers[name] = instructions(lines)
+        for it in filter(None, map(TABLE.search, found[name])):
+            tables.setdefault(it[1], set()).add(int(it[2], 16) + 4)
     for flag, title in (("-s", "Contents of section "), ("-r", "RELOCATION RECORDS FOR ")):
         for name, lines in parts(said(OBJDUMP, flag, made), title):
             if name.startswith(DATA):
-                found.setdefault(name, []).extend(lines)
+                found.setdefault(name, []).extend(goes_to(it, tables.get(name, ()), numbers) for it in lines)
     return found
 
 
