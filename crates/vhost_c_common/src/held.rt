@@ -67,6 +67,9 @@ impl Held {
         requires { HasRoom (length fds.now) self.old }
         ensures { Arrives fds.now is_first self.old self.new }
     {
+        if fds.is_empty() {
+            return;
+        }
         if is_first {
             let _ = self.own.extend_from_slice(fds);
         } else {
@@ -78,6 +81,9 @@ impl Held {
     pub fn release(&mut self)
         ensures { Released self.old self.new }
     {
+        if self.own.is_empty() {
+            return;
+        }
         let _ = self.loose.extend_from_slice(&self.own);
         self.own.clear();
     }
