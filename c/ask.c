@@ -116,12 +116,15 @@ static enum covretin_error receive(void *of, const uint8_t *bytes, size_t bytes_
     return COVRETIN_OK;
 }
 
-static enum covretin_error take_reply(void *of)
+static enum covretin_error unclaimed(void *of, int32_t *fds, size_t fds_len, size_t *count)
 {
-    return covretin_take(of);
+    return covretin_unclaimed(of, fds, fds_len, count);
 }
 
-static const struct transport_side side = {missing, receive, to_send, NULL, take_reply, false, false, NULL, NULL};
+TRANSPORT_CALL(abandon, covretin_abandon)
+TRANSPORT_CALL(take_reply, covretin_take)
+
+static const struct transport_side side = {missing, receive, to_send, unclaimed, abandon, take_reply, false, false, NULL, NULL};
 
 static void show_text(const struct text *text)
 {
@@ -377,7 +380,7 @@ int main(int argc, char **argv)
     int fd = connect_to(path);
     if (covretin_open(&session, rings) || covretin_set_profile(&session, profile))
         fail("memory: an allocation failed");
-    transport = transport_new(&side, &session, fd);
+    transport = transport_new(&side, &session, fd, sizeof *transport);
     if (transport == NULL)
         fail("memory: an allocation failed");
     do_lines();

@@ -185,15 +185,22 @@ int covretin_listener_fd(const covretin_listener *listener)
 
 TRANSPORT_BYTES(backend, covretin_backend)
 TRANSPORT_OPENS(backend, covretin_backend)
+TRANSPORT_CALL(end, covretin_backend_end)
+
+static enum covretin_error backend_abandon(void *session)
+{
+    covretin_reply_refused(session);
+    return covretin_backend_abandon(session);
+}
 
 static enum covretin_error next(void *session, uint32_t *call)
 {
     return covretin_backend_next(session, call);
 }
 
-static enum covretin_error end(void *session)
+static enum covretin_error claim(void *session, int32_t fd)
 {
-    return covretin_backend_end(session);
+    return covretin_backend_claim(session, fd);
 }
 
 static bool ended(void *session)
@@ -216,8 +223,8 @@ static enum covretin_error serve_other(void *session, const struct serving_hook 
 }
 
 static const struct serving_side backend_side = {
-    {backend_missing, backend_receive, backend_to_send, backend_unclaimed, NULL, true, false, backend_open, backend_close}, next, end, ended,
-    COVRETIN_CALL_OTHER, serve_other};
+    {backend_missing, backend_receive, backend_to_send, backend_unclaimed, backend_abandon, NULL, true, false, backend_open, backend_close},
+    next, end, claim, ended, COVRETIN_CALL_OTHER, serve_other};
 
 /* -- Frontends -- */
 
@@ -264,12 +271,12 @@ enum covretin_error covretin_accept(covretin_listener *listener, covretin_servic
 
 void covretin_hang_up(covretin_service *service)
 {
-    serving_close(&service->opaque, &backend_side, &service->backend);
+    transport_disconnect(&service->opaque, &service->backend, backend_close);
 }
 
 int covretin_service_fd(const covretin_service *service)
 {
-    return serving_fd(service->opaque);
+    return transport_fd(service->opaque);
 }
 
 bool covretin_service_ended(const covretin_service *service)

@@ -6,20 +6,20 @@
 /* -- The device's session -- */
 
 TRANSPORT_BYTES(channel, covretin_channel)
-TRANSPORT_TAKES(channel, covretin_channel)
 TRANSPORT_OPENS(channel, covretin_channel)
+TRANSPORT_CALL(channel_take, covretin_channel_take)
 
-static const struct transport_side channel_side = {channel_missing, channel_receive, channel_to_send, channel_unclaimed, channel_take,
+static const struct transport_side channel_side = {channel_missing, channel_receive, channel_to_send, channel_unclaimed, NULL, channel_take,
                                                    false, true, channel_open, channel_close};
 
 enum covretin_error covretin_channel_connect_fd(covretin_channel_connection *connection, int fd)
 {
-    return transport_connect(&connection->opaque, &channel_side, &connection->channel, fd);
+    return transport_connect(&connection->opaque, &channel_side, &connection->channel, 0, fd, sizeof(struct transport));
 }
 
 void covretin_channel_disconnect(covretin_channel_connection *connection)
 {
-    transport_disconnect(&connection->opaque, &channel_side, &connection->channel);
+    transport_disconnect(&connection->opaque, &connection->channel, channel_close);
 }
 
 int covretin_channel_connection_fd(const covretin_channel_connection *connection)
@@ -51,19 +51,27 @@ enum covretin_error covretin_channel_exchange_nowait(covretin_channel_connection
 
 TRANSPORT_BYTES(server, covretin_channel_server)
 TRANSPORT_OPENS(server, covretin_channel_server)
+TRANSPORT_CALL(end, covretin_channel_server_end)
 
 static enum covretin_error next(void *server, uint32_t *call)
 {
     return covretin_channel_server_next(server, call);
 }
 
-static enum covretin_error end(void *server)
+static enum covretin_error claim(void *server, int32_t fd)
 {
-    return covretin_channel_server_end(server);
+    return covretin_channel_server_claim(server, fd);
+}
+
+static enum covretin_error server_abandon(void *server)
+{
+    covretin_channel_reply_number(server, 1);
+    return covretin_channel_server_abandon(server);
 }
 
 static const struct serving_side server_side = {
-    {server_missing, server_receive, server_to_send, server_unclaimed, NULL, true, false, server_open, server_close}, next, end, NULL, 0, NULL};
+    {server_missing, server_receive, server_to_send, server_unclaimed, server_abandon, NULL, true, false, server_open, server_close}, next, end,
+    claim, NULL, 0, NULL};
 
 enum covretin_error covretin_channel_serve_fd(covretin_channel_service *service, int fd)
 {
@@ -72,12 +80,12 @@ enum covretin_error covretin_channel_serve_fd(covretin_channel_service *service,
 
 void covretin_channel_hang_up(covretin_channel_service *service)
 {
-    serving_close(&service->opaque, &server_side, &service->server);
+    transport_disconnect(&service->opaque, &service->server, server_close);
 }
 
 int covretin_channel_service_fd(const covretin_channel_service *service)
 {
-    return serving_fd(service->opaque);
+    return transport_fd(service->opaque);
 }
 
 bool covretin_channel_service_ended(const covretin_channel_service *service)

@@ -6,20 +6,20 @@
 /* -- Connections -- */
 
 TRANSPORT_BYTES(display, covretin_display)
-TRANSPORT_TAKES(display, covretin_display)
 TRANSPORT_OPENS(display, covretin_display)
+TRANSPORT_CALL(display_take, covretin_display_take)
 
-static const struct transport_side display_side = {display_missing, display_receive, display_to_send, display_unclaimed, display_take,
+static const struct transport_side display_side = {display_missing, display_receive, display_to_send, display_unclaimed, NULL, display_take,
                                                    false, true, display_open, display_close};
 
 enum covretin_error covretin_display_connect_fd(covretin_display_connection *connection, int fd)
 {
-    return transport_connect(&connection->opaque, &display_side, &connection->display, fd);
+    return transport_connect(&connection->opaque, &display_side, &connection->display, 0, fd, sizeof(struct transport));
 }
 
 void covretin_display_disconnect(covretin_display_connection *connection)
 {
-    transport_disconnect(&connection->opaque, &display_side, &connection->display);
+    transport_disconnect(&connection->opaque, &connection->display, display_close);
 }
 
 int covretin_display_connection_fd(const covretin_display_connection *connection)

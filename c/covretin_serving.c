@@ -3,66 +3,25 @@
 #include "covretin_serving.h"
 
 #include <poll.h>
-#include <stdlib.h>
 
 /* -- Its life -- */
 
-/* What serves a session over this socket, or NULL: an allocation failed. */
-static struct serving *new_serving(const struct serving_side *side, void *session, int socket)
-{
-    struct serving *serving = calloc(1, sizeof *serving);
-    if (serving == NULL)
-        return NULL;
-    serving->side = side;
-    serving->transport = transport_new(&side->bytes, session, socket);
-    if (serving->transport != NULL)
-        return serving;
-    free(serving);
-    return NULL;
-}
-
 enum covretin_error serving_open(void **opaque, const struct serving_side *side, void *session, int socket)
 {
-    enum covretin_error error;
-    if (*opaque != NULL)
-        return COVRETIN_SESSION_OPEN;
-    error = transport_check_socket(socket);
-    if (error)
-        return error;
-    error = side->bytes.open(session);
-    if (error)
-        return error;
-    *opaque = new_serving(side, session, socket);
-    if (*opaque != NULL)
-        return COVRETIN_OK;
-    side->bytes.close(session);
-    return COVRETIN_OUT_OF_MEMORY;
-}
-
-void serving_close(void **opaque, const struct serving_side *side, void *session)
-{
-    struct serving *serving = *opaque;
-    side->bytes.close(session);
-    if (serving == NULL)
-        return;
-    transport_free(serving->transport);
-    free(serving);
-    *opaque = NULL;
-}
-
-int serving_fd(const struct serving *serving)
-{
-    return serving == NULL ? -1 : transport_fd(serving->transport);
+    enum covretin_error error = transport_connect(opaque, &side->bytes, session, 0, socket, sizeof(struct serving));
+    if (!error)
+        ((struct serving *)*opaque)->side = side;
+    return error;
 }
 
 bool serving_ended(const struct serving *serving)
 {
-    return serving == NULL || serving->transport->broken;
+    return serving == NULL || serving->transport.broken;
 }
 
 uint32_t serving_request(const struct serving *serving)
 {
-    return serving == NULL ? 0 : transport_request(serving->transport);
+    return serving == NULL ? 0 : transport_request(&serving->transport);
 }
 
 /* -- Requests -- */
@@ -70,20 +29,20 @@ uint32_t serving_request(const struct serving *serving)
 /* Whether the call that was handed out last is still to be replied to. */
 static bool is_pending(const struct serving *serving)
 {
-    return serving->calling && serving->side->bytes.missing(serving->transport->session) == 0;
+    return serving->calling && serving->side->bytes.missing(serving->transport.session) == 0;
 }
 
 /* Whether the session could not answer whoever waits, or broke off amid a message. */
 static bool has_ended(const struct serving *serving)
 {
-    return serving->side->ended != NULL && serving->side->ended(serving->transport->session);
+    return serving->side->ended != NULL && serving->side->ended(serving->transport.session);
 }
 
 /* Checks the request that came. NOT_YET: one without a call of its own was served and replied to, and the next may come. */
 static enum covretin_error check_request(struct serving *serving, uint32_t *call)
 {
     const struct serving_side *side = serving->side;
-    void *session = serving->transport->session;
+    void *session = serving->transport.session;
     uint32_t asked = 0;
     enum covretin_error error = side->next(session, &asked);
     serving->calling = error == COVRETIN_OK;
@@ -101,8 +60,8 @@ static enum covretin_error check_request(struct serving *serving, uint32_t *call
 /* Receives a request, and checks it. The end of the stream is what it means where it came. */
 static enum covretin_error receive_request(struct serving *serving, uint32_t *call)
 {
-    void *session = serving->transport->session;
-    enum covretin_error error = transport_receive(serving->transport);
+    void *session = serving->transport.session;
+    enum covretin_error error = transport_receive(&serving->transport);
     if (error == COVRETIN_DISCONNECTED)
         return serving->side->end(session);
     if (error)
@@ -110,7 +69,7 @@ static enum covretin_error receive_request(struct serving *serving, uint32_t *ca
     error = check_request(serving, call);
     if (!serving->calling) {
         serving->refusal = error;
-        transport_next(serving->transport);
+        transport_next(&serving->transport);
     }
     return error;
 }
@@ -120,16 +79,16 @@ static enum covretin_error receive_request(struct serving *serving, uint32_t *ca
 static enum covretin_error send_before(struct serving *serving)
 {
     enum covretin_error error;
-    if (serving->transport->begun && !serving->calling)
+    if (serving->transport.begun && !serving->calling)
         return COVRETIN_OK;
-    error = transport_send(serving->transport);
+    error = transport_send(&serving->transport);
     if (error == COVRETIN_INVALID_PARAM)
         return COVRETIN_SOCKET_ERROR;
     if (error)
         return error;
     if (serving->calling) {
         serving->calling = false;
-        transport_next(serving->transport);
+        transport_next(&serving->transport);
     }
     return has_ended(serving) ? COVRETIN_SOCKET_BROKEN : COVRETIN_OK;
 }
@@ -137,7 +96,7 @@ static enum covretin_error send_before(struct serving *serving)
 /* Tells why a request was refused, once what is to be sent was sent. */
 static enum covretin_error tell_refusal(struct serving *serving)
 {
-    enum covretin_error error = transport_send(serving->transport);
+    enum covretin_error error = transport_send(&serving->transport);
     if (error)
         return error;
     error = serving->refusal;
@@ -186,13 +145,13 @@ static enum covretin_error work_nowait(struct serving *serving, work *does, uint
     *events = 0;
     if (serving == NULL)
         return COVRETIN_NO_SESSION;
-    if (transport_is_broken(serving->transport))
-        return serving->transport->broken;
-    error = transport_settle(serving->transport, does(serving, call, events));
+    if (transport_is_broken(&serving->transport))
+        return serving->transport.broken;
+    error = transport_settle(&serving->transport, does(serving, call, events));
     if (error != COVRETIN_NOT_YET)
         *events = 0;
     if (!serving->calling && !serving->refusal && has_ended(serving))
-        transport_hang_up(serving->transport);
+        transport_hang_up(&serving->transport);
     return error;
 }
 
@@ -202,14 +161,14 @@ static enum covretin_error work_until(struct serving *serving, work *does, uint3
     for (;;) {
         short events;
         enum covretin_error error;
-        transport_may_wait(serving == NULL ? NULL : serving->transport, end < 0);
+        transport_may_wait(serving == NULL ? NULL : &serving->transport, end < 0);
         error = work_nowait(serving, does, call, &events);
-        transport_may_wait(serving == NULL ? NULL : serving->transport, false);
+        transport_may_wait(serving == NULL ? NULL : &serving->transport, false);
         if (error != COVRETIN_NOT_YET)
             return error;
-        error = transport_wait(serving->transport->socket, events, end);
+        error = transport_wait(serving->transport.socket, events, end);
         if (error)
-            return transport_settle(serving->transport, error);
+            return transport_settle(&serving->transport, error);
     }
 }
 
@@ -239,5 +198,5 @@ enum covretin_error serving_claim(struct serving *serving, int32_t fd)
 {
     if (serving == NULL)
         return COVRETIN_NO_SESSION;
-    return is_pending(serving) && transport_claim(serving->transport, fd) ? COVRETIN_OK : COVRETIN_OTHER_CALL;
+    return serving->side->claim(serving->transport.session, fd);
 }

@@ -19,6 +19,7 @@ struct serving_side {
     struct transport_side bytes;
     enum covretin_error (*next)(void *session, uint32_t *call);
     enum covretin_error (*end)(void *session);
+    enum covretin_error (*claim)(void *session, int32_t fd);
     bool (*ended)(void *session); /* whether it reads nothing more; NULL: it always does */
     /* replies to a request that has no call of its own, which `next` gives this number: INVALID_OPERATION: nobody serves it; 0: no such */
     uint32_t other_call;
@@ -27,8 +28,8 @@ struct serving_side {
 
 /* What stands behind a service; NULL: none. */
 struct serving {
+    struct transport transport;
     const struct serving_side *side;
-    struct transport *transport;
     struct serving_hook hook;
     bool calling;                /* a call was handed out, and what came with it is still there */
     enum covretin_error refusal; /* of a request whose acknowledgement is still to be sent, or 0 */
@@ -38,11 +39,7 @@ struct serving {
  * SESSION_OPEN; what transport_check_socket returns; OUT_OF_MEMORY. */
 enum covretin_error serving_open(void **opaque, const struct serving_side *side, void *session, int socket);
 
-/* Closes it, the socket and all that came; there may be none. */
-void serving_close(void **opaque, const struct serving_side *side, void *session);
-
-/* The socket, or -1; and whether it is of no more use. */
-int serving_fd(const struct serving *serving);
+/* Whether it is of no more use. */
 bool serving_ended(const struct serving *serving);
 
 /* The number of the request that came last, or 0. */

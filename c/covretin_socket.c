@@ -8,7 +8,6 @@
 #include "covretin_transport.h"
 
 #include <errno.h>
-#include <stdlib.h>
 #include <sys/socket.h>
 #include <sys/time.h>
 #include <sys/un.h>
@@ -16,17 +15,29 @@
 
 /* What stands behind covretin_connection.opaque. */
 struct exchange {
-    struct transport *transport;
-    int32_t reply_fd; /* of the reply that was taken last; the connection's, until it is claimed. -1: none */
+    struct transport transport;
+    bool has_fd; /* of the reply that was taken last, until it is claimed */
+    int32_t fd;
 };
 
 /* -- The session's side of the bytes -- */
 
 TRANSPORT_BYTES(frontend, covretin)
-TRANSPORT_TAKES(frontend, covretin)
+TRANSPORT_CALL(frontend_abandon, covretin_abandon)
+TRANSPORT_CALL(frontend_take, covretin_take)
 
-static const struct transport_side frontend_side = {frontend_missing, frontend_receive, frontend_to_send, frontend_unclaimed, frontend_take,
-                                                    false, false, NULL, NULL};
+static enum covretin_error frontend_open(void *session, uint64_t rings)
+{
+    return covretin_open(session, rings);
+}
+
+static void frontend_close(void *session)
+{
+    covretin_close(session);
+}
+
+static const struct transport_side frontend_side = {frontend_missing, frontend_receive, frontend_to_send, frontend_unclaimed,
+                                                    frontend_abandon, frontend_take, false, false, frontend_open, frontend_close};
 
 /* -- The reply -- */
 
@@ -40,6 +51,14 @@ static int32_t named_by(covretin_session *session)
     return fd;
 }
 
+/* Closes the descriptor of the reply that was taken last, unless it was claimed. */
+static void close_kept(struct exchange *exchange)
+{
+    if (exchange->has_fd)
+        transport_close(exchange->fd);
+    exchange->has_fd = false;
+}
+
 /* Takes the reply, keeps the descriptor that it names, and closes the others that came with it. A number that did not come
  * with it would be another file of this program. */
 static enum covretin_error take(void *of)
@@ -50,64 +69,29 @@ static enum covretin_error take(void *of)
     int32_t named;
     if (error == COVRETIN_NOTHING_ASKED)
         return error;
-    transport_close(exchange->reply_fd);
-    exchange->reply_fd = -1;
+    close_kept(exchange);
     named = error ? -1 : named_by(&connection->session);
-    if (transport_claim(exchange->transport, named))
-        exchange->reply_fd = named;
-    transport_next(exchange->transport);
-    return named == exchange->reply_fd ? error : COVRETIN_INVALID_MESSAGE;
-}
-
-/* What a connection's bytes go through, or NULL: there is none. */
-static struct transport *transport_of(const covretin_connection *connection)
-{
-    const struct exchange *exchange = connection->opaque;
-    return exchange == NULL ? NULL : exchange->transport;
+    exchange->has_fd = covretin_claim(&connection->session, named) == COVRETIN_OK;
+    exchange->fd = named;
+    transport_next(&exchange->transport);
+    return exchange->has_fd == (named >= 0) ? error : COVRETIN_INVALID_MESSAGE;
 }
 
 enum covretin_error covretin_exchange_nowait(covretin_connection *connection, short *events)
 {
-    return transport_exchange_nowait(transport_of(connection), take, connection, events);
+    return transport_exchange_nowait(connection->opaque, take, connection, events);
 }
 
 enum covretin_error covretin_exchange(covretin_connection *connection, int milliseconds)
 {
-    return transport_exchange(transport_of(connection), take, connection, milliseconds);
+    return transport_exchange(connection->opaque, take, connection, milliseconds);
 }
 
 /* -- Connections -- */
 
-/* What stands behind a connection over this socket, or NULL: an allocation failed. */
-static struct exchange *new_exchange(covretin_session *session, int fd)
-{
-    struct exchange *exchange = calloc(1, sizeof *exchange);
-    if (exchange == NULL)
-        return NULL;
-    exchange->reply_fd = -1;
-    exchange->transport = transport_new(&frontend_side, session, fd);
-    if (exchange->transport != NULL)
-        return exchange;
-    free(exchange);
-    return NULL;
-}
-
 enum covretin_error covretin_connect_fd(covretin_connection *connection, int fd, uint64_t max_queue_num)
 {
-    enum covretin_error error;
-    if (connection->opaque != NULL)
-        return COVRETIN_SESSION_OPEN;
-    error = transport_check_socket(fd);
-    if (error)
-        return error;
-    error = covretin_open(&connection->session, max_queue_num);
-    if (error)
-        return error;
-    connection->opaque = new_exchange(&connection->session, fd);
-    if (connection->opaque != NULL)
-        return COVRETIN_OK;
-    covretin_close(&connection->session);
-    return COVRETIN_OUT_OF_MEMORY;
+    return transport_connect(&connection->opaque, &frontend_side, &connection->session, max_queue_num, fd, sizeof(struct exchange));
 }
 
 /* How long connect may wait where the listener's queue is full: as long as a send. Negative: for ever, which is 0 here. */
@@ -162,19 +146,14 @@ enum covretin_error covretin_connect(covretin_connection *connection, const char
 
 void covretin_disconnect(covretin_connection *connection)
 {
-    struct exchange *exchange = connection->opaque;
-    covretin_close(&connection->session);
-    if (exchange == NULL)
-        return;
-    transport_close(exchange->reply_fd);
-    transport_free(exchange->transport);
-    free(exchange);
-    connection->opaque = NULL;
+    if (connection->opaque != NULL)
+        close_kept(connection->opaque);
+    transport_disconnect(&connection->opaque, &connection->session, frontend_close);
 }
 
 int covretin_connection_fd(const covretin_connection *connection)
 {
-    return transport_fd(transport_of(connection));
+    return transport_fd(connection->opaque);
 }
 
 enum covretin_error covretin_claim_fd(covretin_connection *connection, int32_t *fd)
@@ -182,9 +161,9 @@ enum covretin_error covretin_claim_fd(covretin_connection *connection, int32_t *
     struct exchange *exchange = connection->opaque;
     if (exchange == NULL)
         return COVRETIN_NO_SESSION;
-    if (exchange->reply_fd < 0)
+    if (!exchange->has_fd)
         return COVRETIN_OTHER_ANSWER;
-    *fd = exchange->reply_fd;
-    exchange->reply_fd = -1;
+    *fd = exchange->fd;
+    exchange->has_fd = false;
     return COVRETIN_OK;
 }

@@ -107,45 +107,37 @@ void transport_close_socket(int socket, bool is_ended)
     transport_close(socket);
 }
 
-static void close_all(const int32_t *fds, size_t *count)
+static void close_all(const int32_t *fds, size_t count)
 {
-    for (size_t i = 0; i < *count; i++)
+    for (size_t i = 0; i < count; i++)
         transport_close(fds[i]);
-    *count = 0;
 }
 
-static void close_came(struct transport *transport)
-{
-    close_all(transport->came, &transport->came_count);
-    close_all(transport->late, &transport->late_count);
-    transport->untold = 0;
-}
-
-/* Lets the session hand out what nobody will claim: it is closed here. */
-static void forget_unclaimed(struct transport *transport)
+/* Closes what the session hands out, since nobody will claim it. */
+static void close_unclaimed(struct transport *transport)
 {
     int32_t fds[COVRETIN_MAX_FDS];
-    size_t count = transport->told && transport->side->unclaimed != NULL;
-    while (count != 0)
-        if (transport->side->unclaimed(transport->session, fds, COVRETIN_MAX_FDS, &count))
-            count = 0;
-    transport->told = false;
+    size_t count = 0;
+    while (transport->side->unclaimed(transport->session, fds, COVRETIN_MAX_FDS, &count) == COVRETIN_OK && count != 0)
+        close_all(fds, count);
 }
 
-bool transport_claim(struct transport *transport, int32_t fd)
+/* Closes what came. */
+static void close_came(struct transport *transport)
 {
-    for (size_t i = 0; fd >= 0 && i < transport->came_count; i++)
-        if (transport->came[i] == fd) {
-            transport->came[i] = -1;
-            return true;
-        }
-    return false;
+    close_all(transport->came, transport->came_count);
+    transport->came_count = 0;
+    if (!transport->brought)
+        return;
+    if (transport->side->abandon != NULL)
+        transport->side->abandon(transport->session);
+    close_unclaimed(transport);
+    transport->brought = false;
 }
 
 void transport_next(struct transport *transport)
 {
     close_came(transport);
-    forget_unclaimed(transport);
     transport->begun = false;
 }
 
@@ -256,13 +248,12 @@ enum covretin_error transport_send(struct transport *transport)
 
 /* -- Bytes in -- */
 
-/* Takes a descriptor over: one that comes with a message's first byte is kept, and any other until the session was told. */
+/* Takes a descriptor over, for the session, if it hears of it. */
 static void take_over(struct transport *transport, int fd)
 {
-    if (!transport->begun && transport->came_count < COVRETIN_MAX_FDS)
+    bool is_heard = !transport->begun || transport->side->hears_late;
+    if (is_heard && transport->came_count < COVRETIN_MAX_FDS)
         transport->came[transport->came_count++] = fd;
-    else if (transport->begun && transport->side->hears_late && transport->late_count < COVRETIN_MAX_FDS)
-        transport->late[transport->late_count++] = fd;
     else
         transport_close(fd);
 }
@@ -320,8 +311,6 @@ static enum covretin_error receive_piece(struct transport *transport, size_t mos
         return COVRETIN_FDS_LOST;
     if (got == 0)
         return COVRETIN_DISCONNECTED;
-    if (!transport->begun)
-        transport->untold = transport->came_count;
     transport->begun = true;
     transport->end = (size_t)got;
     return COVRETIN_OK;
@@ -333,23 +322,22 @@ void transport_may_wait(struct transport *transport, bool waits)
         transport->waits = waits;
 }
 
-/* Hands the session what it misses of the piece that came, with the descriptors that came with it: its first, or late ones. */
+/* Hands the session what it misses of the piece that came, with the descriptors that came with it, which it keeps from then on. Late ones
+ * it hands out at once. */
 static enum covretin_error hand_in(struct transport *transport, size_t missing)
 {
-    const int32_t *fds = transport->late_count != 0 ? transport->late : transport->came;
-    size_t count = transport->late_count != 0 ? transport->late_count : transport->untold;
     size_t left = transport->end - transport->at;
     size_t part = left < missing ? left : missing;
-    enum covretin_error error =
-        transport->side->receive(transport->session, transport->bytes + transport->at, part, fds, count);
+    enum covretin_error error = transport->side->receive(transport->session, transport->bytes + transport->at, part,
+                                                         transport->came, transport->came_count);
     if (error)
         return error;
-    transport->told |= count != 0;
-    if (transport->late_count != 0)
-        forget_unclaimed(transport);
-    close_all(transport->late, &transport->late_count);
-    transport->untold = 0;
     transport->at += part;
+    if (transport->came_count != 0) {
+        transport->came_count = 0;
+        transport->brought = true;
+        close_unclaimed(transport);
+    }
     return COVRETIN_OK;
 }
 
@@ -383,10 +371,10 @@ enum covretin_error transport_receive(struct transport *transport)
 
 /* -- Its life -- */
 
-struct transport *transport_new(const struct transport_side *side, void *session, int socket)
+struct transport *transport_new(const struct transport_side *side, void *session, int socket, size_t size)
 {
     const int on = 1;
-    struct transport *transport = calloc(1, sizeof *transport);
+    struct transport *transport = calloc(1, size);
     if (transport == NULL)
         return NULL;
     transport->side = side;
@@ -404,7 +392,8 @@ void transport_free(struct transport *transport)
     free(transport);
 }
 
-enum covretin_error transport_connect(void **opaque, const struct transport_side *side, void *session, int socket)
+enum covretin_error transport_connect(void **opaque, const struct transport_side *side, void *session, uint64_t rings, int socket,
+                                      size_t size)
 {
     enum covretin_error error;
     if (*opaque != NULL)
@@ -412,22 +401,22 @@ enum covretin_error transport_connect(void **opaque, const struct transport_side
     error = transport_check_socket(socket);
     if (error)
         return error;
-    error = side->open(session);
+    error = side->open(session, rings);
     if (error)
         return error;
-    *opaque = transport_new(side, session, socket);
+    *opaque = transport_new(side, session, socket, size);
     if (*opaque != NULL)
         return COVRETIN_OK;
     side->close(session);
     return COVRETIN_OUT_OF_MEMORY;
 }
 
-void transport_disconnect(void **opaque, const struct transport_side *side, void *session)
+void transport_disconnect(void **opaque, void *session, void (*close)(void *session))
 {
-    side->close(session);
     if (*opaque != NULL)
         transport_free(*opaque);
     *opaque = NULL;
+    close(session);
 }
 
 int transport_fd(const struct transport *transport)
@@ -540,7 +529,7 @@ enum covretin_error transport_exchange_nowait(struct transport *transport, trans
     if (!error) {
         bool is_last = transport->at == transport->end;
         /* (the system does not say whether descriptors came with the reply or with what is behind it) */
-        error = is_last || transport->came_count == 0 ? takes(of) : COVRETIN_INVALID_MESSAGE;
+        error = is_last || !transport->brought ? takes(of) : COVRETIN_INVALID_MESSAGE;
         if (!is_last) /* nobody awaits it */
             transport_settle(transport, COVRETIN_INVALID_MESSAGE);
     }

@@ -12,15 +12,23 @@ struct transport_side {
     enum covretin_error (*receive)(void *session, const uint8_t *bytes, size_t bytes_len, const int32_t *fds, size_t fds_len);
     enum covretin_error (*to_send)(void *session, uint8_t *bytes, size_t bytes_len, int32_t *fds, size_t fds_len, size_t *byte_count,
                                    size_t *fd_count);
-    enum covretin_error (*unclaimed)(void *session, int32_t *fds, size_t fds_len, size_t *count); /* NULL where it keeps none */
+    enum covretin_error (*unclaimed)(void *session, int32_t *fds, size_t fds_len, size_t *count);
+    enum covretin_error (*abandon)(void *session); /* nor a call that is to be replied to; NULL where nobody may claim a descriptor */
     enum covretin_error (*take)(void *session); /* the reply; NULL where it serves */
     bool hears_late;                            /* is told of descriptors that come amid a message, too */
     bool is_given;                              /* its socket came from the peer, who may go on with it */
-    enum covretin_error (*open)(void *session); /* with its socket, and what closes it; NULL where another does */
+    enum covretin_error (*open)(void *session, uint64_t rings); /* with its socket, and what closes it; NULL where another does */
     void (*close)(void *session);
 };
 
-/* Those calls of a session, as a side has them; `calls` is what their names begin with. */
+/* A call of a session that is given nothing else, as a side has it. */
+#define TRANSPORT_CALL(name, call) \
+    static enum covretin_error name(void *session) \
+    { \
+        return call(session); \
+    }
+
+/* Those that bytes and descriptors go through; `calls` is what their names begin with. */
 #define TRANSPORT_BYTES(name, calls) \
     static size_t name##_missing(void *session) \
     { \
@@ -39,14 +47,12 @@ struct transport_side {
     { \
         return calls##_unclaimed(session, fds, fds_len, count); \
     }
-#define TRANSPORT_TAKES(name, calls) \
-    static enum covretin_error name##_take(void *session) \
-    { \
-        return calls##_take(session); \
-    }
+
+/* Those that open and close it. */
 #define TRANSPORT_OPENS(name, calls) \
-    static enum covretin_error name##_open(void *session) \
+    static enum covretin_error name##_open(void *session, uint64_t rings) \
     { \
+        (void)rings; \
         return calls##_open(session); \
     } \
     static void name##_close(void *session) \
@@ -72,26 +78,24 @@ struct transport {
     bool begun;                     /* the awaited message has begun to come */
     uint8_t code[4];                /* the first bytes of the message that came last: the number of its request */
     size_t code_len;
-    int32_t came[COVRETIN_MAX_FDS]; /* with its first byte; the connection's. -1: handed over */
+    int32_t came[COVRETIN_MAX_FDS]; /* with the piece in `bytes`, until the session receives it and keeps them */
     size_t came_count;
-    int32_t late[COVRETIN_MAX_FDS]; /* with a later one; closed once the session was told */
-    size_t late_count;
-    bool told;     /* the session was told of some, of which it hands out what nobody claims */
-    size_t untold; /* how many of those that came the session was not told of yet: all, or none */
+    bool brought; /* the session keeps descriptors of a message, until they are claimed or closed */
 };
 
-/* A transport over this socket, or NULL: an allocation failed. */
-struct transport *transport_new(const struct transport_side *side, void *session, int socket);
+/* A transport over this socket, at the begin of so many bytes, of which those behind it are 0; or NULL: an allocation failed. */
+struct transport *transport_new(const struct transport_side *side, void *session, int socket, size_t size);
 
-/* Closes the socket and all that came, and frees it. */
+/* Closes the socket and all that came, and frees it. Its session is open. */
 void transport_free(struct transport *transport);
 
-/* Opens a session, and a transport over this socket, which `opaque` then is; after an error both are as before. SESSION_OPEN; what
+/* Opens a session, and such a transport over this socket, which `opaque` then is; after an error both are as before. SESSION_OPEN; what
  * transport_check_socket returns; OUT_OF_MEMORY. */
-enum covretin_error transport_connect(void **opaque, const struct transport_side *side, void *session, int socket);
+enum covretin_error transport_connect(void **opaque, const struct transport_side *side, void *session, uint64_t rings, int socket,
+                                      size_t size);
 
 /* Closes both; the transport may be none. */
-void transport_disconnect(void **opaque, const struct transport_side *side, void *session);
+void transport_disconnect(void **opaque, void *session, void (*close)(void *session));
 
 /* The socket; -1: there is none. */
 int transport_fd(const struct transport *transport);
@@ -120,10 +124,7 @@ enum covretin_error transport_exchange_nowait(struct transport *transport, trans
 /* The same within a limit of time. */
 enum covretin_error transport_exchange(struct transport *transport, transport_take *takes, void *of, int milliseconds);
 
-/* Hands over a descriptor that came with the message. Whether it did. */
-bool transport_claim(struct transport *transport, int32_t fd);
-
-/* Closes what came and was not handed over; the next message may come. */
+/* Closes what came and was not claimed; the next message may come. */
 void transport_next(struct transport *transport);
 
 /* Notes an error after which the connection is of no more use; returns it. */

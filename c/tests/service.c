@@ -265,6 +265,29 @@ static void claims(void)
     close(peer);
 }
 
+/* A call that is never replied to: what was claimed stays its caller's, and the other is closed. */
+static void hangs_up_amid_a_call(void)
+{
+    uint8_t body[72] = {2, [8 + 9] = 16, [40 + 1] = 1, [40 + 9] = 16};
+    covretin_region regions[2];
+    size_t count = 0;
+    bool listening = true;
+    int peer = served_pair(), files[2] = {file_of("low"), file_of("high")};
+    size_t before = open_fds();
+    request(peer, SET_MEM_TABLE, REQUEST_FLAGS, body, sizeof body, files, 2);
+    expect_call(COVRETIN_CALL_SET_MEM_TABLE);
+    EXPECT(COVRETIN_OK, covretin_call_regions(&service.backend, regions, 2, &count, &listening));
+    EXPECT(COVRETIN_OK, covretin_claim_call_fd(&service, regions[0].fd));
+    EXPECT(before + 2, open_fds());
+    covretin_hang_up(&service);
+    EXPECT(before, open_fds()); /* (the service's socket is closed, too) */
+    EXPECT(true, holds(regions[0].fd, "low"));
+    close(regions[0].fd);
+    close(files[0]);
+    close(files[1]);
+    close(peer);
+}
+
 /* The socket of the display's channel, which no frontend of this library gives: it is claimed, and the channel is the device's. */
 static void takes_the_display(void)
 {
@@ -811,6 +834,7 @@ int main(void)
     RUN(takes_only_stream_sockets);
     RUN(without_service);
     RUN(claims);
+    RUN(hangs_up_amid_a_call);
     RUN(takes_the_display);
     RUN(hangs_up_amid_a_request);
     RUN(closes_what_is_refused);
