@@ -54,3 +54,19 @@ directory = "$(cd "$COVRETIN_CRATES" && pwd)"
 offline = true
 END
 }
+
+# Whether the crate vhost is there, with what it depends on: in `sources`, and which features rust/fuzz has over it.
+find_the_crate() {
+    sources=${COVRETIN_VHOST:-$(folder_of vhost)}
+    features=
+    [ -f "$sources/Cargo.toml" ] && folder_of vmm-sys-util >"$room/said" || return 1
+    ! grep -q '^version = "0.17' "$sources/Cargo.toml" || features=older
+}
+
+# Cargo, over the folder of crates, with these sources of the crate.
+run_beside() {
+    command=$1
+    shift
+    cargo "$command" --config "source.crates-io.replace-with='here'" --config "source.here.directory='$(cd "$COVRETIN_CRATES" && pwd)'" \
+        --config "patch.crates-io.vhost.path='$(cd "$sources" && pwd)'" --offline --quiet --features "$features" "$@"
+}
