@@ -3,7 +3,7 @@
 //! stands there.
 use std::os::unix::io::RawFd;
 
-use super::moving::{calls, outcome, sessions, values, Asks, Code, Moves, Outcome, Raw, Serves, MAX_FDS, MAX_MESSAGE};
+use super::moving::{calls, outcome, records, sessions, values, Asks, Code, Moves, Outcome, Raw, Serves, MAX_FDS, MAX_MESSAGE};
 
 /// `covretin_mmap`.
 #[repr(C)]
@@ -35,6 +35,9 @@ calls! {
     config_change = covretin_channel_ask_config_change();
     shmem_map = covretin_channel_ask_shmem_map(mmap: &Mmap, fd: i32);
     shmem_unmap = covretin_channel_ask_shmem_unmap(mmap: &Mmap);
+    shared_object_add = covretin_channel_ask_shared_object_add(; name: [u8]);
+    shared_object_remove = covretin_channel_ask_shared_object_remove(; name: [u8]);
+    shared_object_lookup = covretin_channel_ask_shared_object_lookup(; name: [u8], fd: i32);
 }
 
 calls! {
@@ -52,54 +55,31 @@ values! {
     fd = covretin_channel_call_fd(fd: i32 = -1) -> RawFd;
 }
 
-extern "C" {
-    fn covretin_channel_open(channel: &mut Raw) -> u32;
-    fn covretin_channel_ask_shared_object_add(channel: &mut Raw, name: *const u8, name_len: usize) -> u32;
-    fn covretin_channel_ask_shared_object_remove(channel: &mut Raw, name: *const u8, name_len: usize) -> u32;
-    fn covretin_channel_ask_shared_object_lookup(channel: &mut Raw, name: *const u8, name_len: usize, fd: i32) -> u32;
-    fn covretin_channel_server_open(server: &mut Raw) -> u32;
-    fn covretin_channel_call_name(server: &mut Raw, name: *mut u8, name_len: usize) -> u32;
+records! {
+    ChannelServer:
+    name = covretin_channel_call_name() -> [u8; 16];
 }
 
-// SAFETY, of each call below: it is declared as in the header. The session is open, and borrowed by this call alone. A name is
-// borrowed for the call, given by its pointer, which is never null, and its own length.
+extern "C" {
+    fn covretin_channel_open(channel: &mut Raw) -> u32;
+    fn covretin_channel_server_open(server: &mut Raw) -> u32;
+}
+
 impl ChannelSession {
     pub(crate) fn open() -> Result<ChannelSession, Code> {
         let mut raw = Raw::none();
-        // SAFETY: as above; it is not open yet.
+        // SAFETY: it is declared as in the header. The session is not open yet.
         outcome(unsafe { covretin_channel_open(&mut raw) })?;
         Ok(ChannelSession(raw))
-    }
-
-    pub(crate) fn shared_object_add(&mut self, name: &[u8; 16]) -> Outcome {
-        // SAFETY: as above.
-        outcome(unsafe { covretin_channel_ask_shared_object_add(&mut self.0, name.as_ptr(), name.len()) })
-    }
-
-    pub(crate) fn shared_object_remove(&mut self, name: &[u8; 16]) -> Outcome {
-        // SAFETY: as above.
-        outcome(unsafe { covretin_channel_ask_shared_object_remove(&mut self.0, name.as_ptr(), name.len()) })
-    }
-
-    pub(crate) fn shared_object_lookup(&mut self, name: &[u8; 16], fd: RawFd) -> Outcome {
-        // SAFETY: as above.
-        outcome(unsafe { covretin_channel_ask_shared_object_lookup(&mut self.0, name.as_ptr(), name.len(), fd) })
     }
 }
 
 impl ChannelServer {
     pub(crate) fn open() -> Result<ChannelServer, Code> {
         let mut raw = Raw::none();
-        // SAFETY: as above; it is not open yet.
+        // SAFETY: it is declared as in the header. The session is not open yet.
         outcome(unsafe { covretin_channel_server_open(&mut raw) })?;
         Ok(ChannelServer(raw))
-    }
-
-    pub(crate) fn name(&mut self) -> Result<[u8; 16], Code> {
-        let mut name = [0; 16];
-        // SAFETY: as above.
-        outcome(unsafe { covretin_channel_call_name(&mut self.0, name.as_mut_ptr(), name.len()) })?;
-        Ok(name)
     }
 }
 

@@ -3,7 +3,7 @@
 //! stands there. The records that a call is given are the header's structs.
 use std::os::unix::io::RawFd;
 
-use super::moving::{calls, outcome, sessions, values, Asks, Code, Moves, Outcome, Raw, MAX_FDS, MAX_MESSAGE};
+use super::moving::{calls, outcome, records, sessions, values, Asks, Code, Moves, Outcome, Raw, MAX_FDS, MAX_MESSAGE};
 use crate::vhost_user::gpu_message::{
     VhostUserGpuCursorPos, VhostUserGpuCursorUpdate, VhostUserGpuDMABUFScanout, VhostUserGpuDMABUFScanout2, VhostUserGpuScanout,
     VhostUserGpuUpdate, DISPLAY_INFO_SIZE, EDID_SIZE,
@@ -37,34 +37,22 @@ values! {
     take_number = covretin_display_take_number(number: u64 = 0) -> u64;
 }
 
-extern "C" {
-    fn covretin_display_open(display: &mut Raw) -> u32;
-    fn covretin_display_take_display_info(display: &mut Raw, record: *mut u8, record_len: usize) -> u32;
-    fn covretin_display_take_edid(display: &mut Raw, record: *mut u8, record_len: usize) -> u32;
+records! {
+    DisplaySession:
+    take_display_info = covretin_display_take_display_info() -> [u8; DISPLAY_INFO_SIZE];
+    take_edid = covretin_display_take_edid() -> [u8; EDID_SIZE];
 }
 
-// SAFETY, of each call below: it is declared as in the header. The session is open, and borrowed by this call alone. A record is
-// borrowed for the call, given by its pointer, which is never null, and its own length.
+extern "C" {
+    fn covretin_display_open(display: &mut Raw) -> u32;
+}
+
 impl DisplaySession {
     pub(crate) fn open() -> Result<DisplaySession, Code> {
         let mut raw = Raw::none();
-        // SAFETY: as above; it is not open yet.
+        // SAFETY: it is declared as in the header. The session is not open yet.
         outcome(unsafe { covretin_display_open(&mut raw) })?;
         Ok(DisplaySession(raw))
-    }
-
-    pub(crate) fn take_display_info(&mut self) -> Result<[u8; DISPLAY_INFO_SIZE], Code> {
-        let mut record = [0; DISPLAY_INFO_SIZE];
-        // SAFETY: as above.
-        outcome(unsafe { covretin_display_take_display_info(&mut self.0, record.as_mut_ptr(), record.len()) })?;
-        Ok(record)
-    }
-
-    pub(crate) fn take_edid(&mut self) -> Result<[u8; EDID_SIZE], Code> {
-        let mut record = [0; EDID_SIZE];
-        // SAFETY: as above.
-        outcome(unsafe { covretin_display_take_edid(&mut self.0, record.as_mut_ptr(), record.len()) })?;
-        Ok(record)
     }
 }
 

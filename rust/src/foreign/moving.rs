@@ -142,40 +142,62 @@ macro_rules! sessions {
     )*};
 }
 
-/// Calls whose arguments are numbers, and references to structs that are only read.
+/// Calls whose arguments are numbers, and references to structs and a list that are only read; some have a number behind the list.
 macro_rules! calls {
-    ($Session:ident: $($name:ident = $symbol:ident($($arg:ident: $ty:ty),*);)*) => {
+    ($Session:ident: $($name:ident = $symbol:ident(
+        $($arg:ident: $ty:ty),* $(; $list:ident: [$item:ty] $(, $behind:ident: $last:ty)?)?);)*) => {
         extern "C" {
-            $(fn $symbol(session: &mut Raw, $($arg: $ty),*) -> u32;)*
+            $(fn $symbol(session: &mut Raw, $($arg: $ty,)* $($list: *const $item, len: usize, $($behind: $last)?)?) -> u32;)*
         }
 
         impl $Session {
-            $(pub(crate) fn $name(&mut self, $($arg: $ty),*) -> Outcome {
+            $(pub(crate) fn $name(&mut self, $($arg: $ty,)* $($list: &[$item], $($behind: $last)?)?) -> Outcome {
                 // SAFETY: it is declared as in the header. The session is open, and borrowed by this call alone; a struct is
-                // borrowed for the call, and has the header's layout. Any number may be passed.
-                outcome(unsafe { $symbol(&mut self.0, $($arg),*) })
+                // borrowed for the call, and has the header's layout; so has a list, given by its pointer, which is never null, and
+                // its own length. Any number may be passed.
+                outcome(unsafe { $symbol(&mut self.0, $($arg,)* $($list.as_ptr(), $list.len(), $($behind)?)?) })
             })*
         }
     };
 }
 
-/// Calls that give numbers and structs, each of which begins as given here.
+/// Calls that give numbers and structs, each of which begins as given here, and that may fill a list from its start.
 macro_rules! values {
-    ($Session:ident: $($name:ident = $symbol:ident($($value:ident: $ty:ty = $first:expr),*) -> $out:ty;)*) => {
+    ($Session:ident: $($name:ident = $symbol:ident(
+        $($([$list:ident: $item:ty])? $value:ident: $ty:ty = $first:expr),*) -> $out:ty;)*) => {
         extern "C" {
-            $(fn $symbol(session: &mut Raw, $($value: &mut $ty),*) -> u32;)*
+            $(fn $symbol(session: &mut Raw, $($($list: *mut $item, len: usize,)? $value: &mut $ty),*) -> u32;)*
         }
 
         impl $Session {
-            $(pub(crate) fn $name(&mut self) -> Result<$out, Code> {
+            $(pub(crate) fn $name(&mut self, $($($list: &mut [$item])?)*) -> Result<$out, Code> {
                 $(let mut $value: $ty = $first;)*
                 // SAFETY: it is declared as in the header. The session is open, and borrowed by this call alone; each value is
-                // one of its own, is borrowed for the call, and has the header's layout.
-                outcome(unsafe { $symbol(&mut self.0, $(&mut $value),*) })?;
+                // one of its own, is borrowed for the call, and has the header's layout; so has a list, given by its pointer,
+                // which is never null, and its own length.
+                outcome(unsafe { $symbol(&mut self.0, $($($list.as_mut_ptr(), $list.len(),)? &mut $value),*) })?;
                 Ok(($($value),*))
             })*
         }
     };
 }
 
-pub(super) use {calls, sessions, values};
+/// Calls that give bytes of a size that is known.
+macro_rules! records {
+    ($Session:ident: $($name:ident = $symbol:ident() -> [u8; $size:expr];)*) => {
+        extern "C" {
+            $(fn $symbol(session: &mut Raw, record: *mut u8, len: usize) -> u32;)*
+        }
+
+        impl $Session {
+            $(pub(crate) fn $name(&mut self) -> Result<[u8; $size], Code> {
+                let mut record = [0; $size];
+                // SAFETY: it is declared as in the header. The session is open, and borrowed by this call alone, as is the record.
+                outcome(unsafe { $symbol(&mut self.0, record.as_mut_ptr(), record.len()) })?;
+                Ok(record)
+            })*
+        }
+    };
+}
+
+pub(super) use {calls, records, sessions, values};

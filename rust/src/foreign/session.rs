@@ -99,6 +99,10 @@ calls! {
     set_device_state_fd = covretin_ask_set_device_state_fd(direction: u32, phase: u32, fd: i32);
     postcopy_ack_mem_regions = covretin_ask_postcopy_ack_mem_regions(request: u32);
     set_mtu = covretin_ask_set_mtu(mtu: u16);
+    set_mem_table = covretin_ask_set_mem_table(; regions: [Region]);
+    get_config = covretin_ask_get_config_bytes(offset: u32, flags: u32; bytes: [u8]);
+    set_config = covretin_ask_set_config(offset: u32, flags: u32; bytes: [u8]);
+    get_shared_object = covretin_ask_get_shared_object(; name: [u8]);
 }
 
 values! {
@@ -106,74 +110,22 @@ values! {
     answer_number = covretin_answer_number(number: u64 = 0) -> u64;
     answer_fd = covretin_answer_fd(fd: i32 = -1) -> RawFd;
     answer_inflight = covretin_answer_inflight(inflight: Inflight = Inflight::default(), fd: i32 = -1) -> (Inflight, RawFd);
+    answer_bases = covretin_answer_bases([bases: u64] count: usize = 0) -> usize;
+    answer_config = covretin_answer_config(config: Config = Config::default(), [bytes: u8] count: usize = 0) -> (Config, usize);
+    answer_shmem = covretin_answer_shmem([sizes: u64] count: usize = 0) -> usize;
 }
 
 extern "C" {
     fn covretin_open(session: &mut Raw, max_queue_num: u64) -> u32;
     fn covretin_inactive(session: &mut Raw) -> u64;
-    fn covretin_answer_bases(session: &mut Raw, bases: *mut u64, bases_len: usize, count: &mut usize) -> u32;
-    fn covretin_answer_config(session: &mut Raw, config: &mut Config, bytes: *mut u8, bytes_len: usize, count: &mut usize)
-        -> u32;
-    fn covretin_answer_shmem(session: &mut Raw, sizes: *mut u64, sizes_len: usize, count: &mut usize) -> u32;
-    fn covretin_ask_set_mem_table(session: &mut Raw, regions: *const Region, count: usize) -> u32;
-    fn covretin_ask_get_config_bytes(session: &mut Raw, offset: u32, flags: u32, bytes: *const u8, bytes_len: usize) -> u32;
-    fn covretin_ask_set_config(session: &mut Raw, offset: u32, flags: u32, bytes: *const u8, bytes_len: usize) -> u32;
-    fn covretin_ask_get_shared_object(session: &mut Raw, name: *const u8, name_len: usize) -> u32;
 }
 
-// SAFETY, of each call below: it is declared as in the header. The session is open, and borrowed by this call alone. Each list is
-// a slice that is borrowed for the call, given by its pointer, which is never null, and its own length; what is written is
-// borrowed mutably, so no two of them overlap.
 impl Session {
     pub(crate) fn open(max_queue_num: u64) -> Result<Session, Code> {
         let mut raw = Raw::none();
-        // SAFETY: as above; it is not open yet.
+        // SAFETY: it is declared as in the header. The session is not open yet.
         outcome(unsafe { covretin_open(&mut raw, max_queue_num) })?;
         Ok(Session(raw))
-    }
-
-    /// How many bases were written.
-    pub(crate) fn answer_bases(&mut self, bases: &mut [u64]) -> Result<usize, Code> {
-        let mut count = 0;
-        // SAFETY: as above.
-        outcome(unsafe { covretin_answer_bases(&mut self.0, bases.as_mut_ptr(), bases.len(), &mut count) })?;
-        Ok(count)
-    }
-
-    /// The record, and how many bytes were written.
-    pub(crate) fn answer_config(&mut self, bytes: &mut [u8]) -> Result<(Config, usize), Code> {
-        let (mut config, mut count) = (Config::default(), 0);
-        // SAFETY: as above.
-        outcome(unsafe { covretin_answer_config(&mut self.0, &mut config, bytes.as_mut_ptr(), bytes.len(), &mut count) })?;
-        Ok((config, count))
-    }
-
-    /// How many regions the backend has.
-    pub(crate) fn answer_shmem(&mut self, sizes: &mut [u64; 256]) -> Result<usize, Code> {
-        let mut count = 0;
-        // SAFETY: as above.
-        outcome(unsafe { covretin_answer_shmem(&mut self.0, sizes.as_mut_ptr(), sizes.len(), &mut count) })?;
-        Ok(count)
-    }
-
-    pub(crate) fn set_mem_table(&mut self, regions: &[Region]) -> Outcome {
-        // SAFETY: as above.
-        outcome(unsafe { covretin_ask_set_mem_table(&mut self.0, regions.as_ptr(), regions.len()) })
-    }
-
-    pub(crate) fn get_config(&mut self, offset: u32, flags: u32, bytes: &[u8]) -> Outcome {
-        // SAFETY: as above.
-        outcome(unsafe { covretin_ask_get_config_bytes(&mut self.0, offset, flags, bytes.as_ptr(), bytes.len()) })
-    }
-
-    pub(crate) fn set_config(&mut self, offset: u32, flags: u32, bytes: &[u8]) -> Outcome {
-        // SAFETY: as above.
-        outcome(unsafe { covretin_ask_set_config(&mut self.0, offset, flags, bytes.as_ptr(), bytes.len()) })
-    }
-
-    pub(crate) fn get_shared_object(&mut self, name: &[u8; 16]) -> Outcome {
-        // SAFETY: as above.
-        outcome(unsafe { covretin_ask_get_shared_object(&mut self.0, name.as_ptr(), name.len()) })
     }
 }
 
@@ -183,7 +135,7 @@ impl Asks for Session {
     }
 
     fn inactive(&mut self) -> u64 {
-        // SAFETY: as above.
+        // SAFETY: it is declared as in the header. The session is open, and borrowed by this call alone.
         unsafe { covretin_inactive(&mut self.0) }
     }
 }
