@@ -174,7 +174,7 @@ fn reply_layout(request: FrontendReq, size: usize) -> Layout {
     match (request, size) {
         (_, 0) => (&[], Tail::End),
         (SET_MEM_TABLE | ADD_MEM_REG | REM_MEM_REG, 9..) => request_layout(request),
-        (GET_CONFIG | GET_INFLIGHT_FD, ..9) => RESULT,
+        (GET_CONFIG | GET_INFLIGHT_FD, 0..=8) => RESULT,
         (SET_LOG_BASE, 8) => SIZE,
         _ => whole_reply_layout(request),
     }
@@ -184,8 +184,9 @@ fn reply_layout(request: FrontendReq, size: usize) -> Layout {
 #[rustfmt::skip]
 fn backend_layout(code: u32) -> Layout {
     use BackendReq::*;
-    let Ok(request) = BackendReq::try_from(code) else {
-        return UNKNOWN;
+    let request = match BackendReq::try_from(code) {
+        Ok(request) => request,
+        Err(()) => return UNKNOWN,
     };
     match request {
         // generated from protocol/requests.toml: requests of a backend

@@ -106,8 +106,10 @@ mod tests {
     #[test]
     fn paths_of_any_bytes() {
         let bytes: OsString = std::os::unix::ffi::OsStringExt::from_vec(vec![b'a', 0xff]);
-        let parsed = parse([bytes.clone(), bytes.clone()]);
-        let Ok(Asked::Tap(options)) = parsed else { panic!("{parsed:?}") };
+        let options = match parse([bytes.clone(), bytes.clone()]) {
+            Ok(Asked::Tap(options)) => options,
+            parsed => panic!("{parsed:?}"),
+        };
         let (listen, connect) = (PathBuf::from(bytes.clone()), PathBuf::from(bytes.clone()));
         assert_eq!(Source::Sockets { listen, connect, record: None, count: None }, options.source);
         let mut option = OsString::from("-");
