@@ -11,6 +11,9 @@ pub mod device;
 #[allow(unsafe_code)]
 mod foreign;
 mod iotlb;
+#[cfg(test)]
+#[path = "tests/owning.rs"]
+mod owning;
 pub mod queue;
 pub mod tap;
 pub mod vhost_user;

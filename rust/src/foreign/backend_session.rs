@@ -13,8 +13,7 @@ pub(crate) const CALL_OTHER: u32 = 257;
 
 sessions! {
     /// A backend's session.
-    BackendSession: covretin_backend_close, covretin_backend_missing, covretin_backend_receive, covretin_backend_to_send,
-        covretin_backend_unclaimed;
+    BackendSession: "covretin_backend_", open(), claim, abandon, reply_refused();
 }
 
 calls! {
@@ -55,18 +54,8 @@ records! {
 }
 
 extern "C" {
-    fn covretin_backend_open(backend: &mut Raw) -> u32;
     fn covretin_backend_inactive(backend: &mut Raw) -> u64;
     fn covretin_backend_ended(backend: &mut Raw) -> u32;
-}
-
-impl BackendSession {
-    pub(crate) fn open() -> Result<BackendSession, Code> {
-        let mut raw = Raw::none();
-        // SAFETY: it is declared as in the header. The session is not open yet.
-        outcome(unsafe { covretin_backend_open(&mut raw) })?;
-        Ok(BackendSession(raw))
-    }
 }
 
 // SAFETY, of both calls: they are declared as in the header. The session is open, and borrowed by this call alone.

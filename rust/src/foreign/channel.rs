@@ -4,6 +4,7 @@
 use std::os::unix::io::RawFd;
 
 use super::moving::{calls, outcome, records, sessions, values, Asks, Code, Moves, Outcome, Raw, Serves, MAX_FDS, MAX_MESSAGE};
+use super::owning::Owning;
 
 /// `covretin_mmap`.
 #[repr(C)]
@@ -18,11 +19,9 @@ pub(crate) struct Mmap {
 
 sessions! {
     /// A device's session on the backend channel.
-    ChannelSession: covretin_channel_close, covretin_channel_missing, covretin_channel_receive, covretin_channel_to_send,
-        covretin_channel_unclaimed;
+    ChannelSession: "covretin_channel_", open();
     /// A frontend's session on the backend channel.
-    ChannelServer: covretin_channel_server_close, covretin_channel_server_missing, covretin_channel_server_receive,
-        covretin_channel_server_to_send, covretin_channel_server_unclaimed;
+    ChannelServer: "covretin_channel_server_", open(), claim, abandon, reply_number(1);
 }
 
 calls! {
@@ -60,36 +59,15 @@ records! {
     name = covretin_channel_call_name() -> [u8; 16];
 }
 
-extern "C" {
-    fn covretin_channel_open(channel: &mut Raw) -> u32;
-    fn covretin_channel_server_open(server: &mut Raw) -> u32;
-}
+impl Asks for Owning<ChannelSession> {
+    type Session = ChannelSession;
 
-impl ChannelSession {
-    pub(crate) fn open() -> Result<ChannelSession, Code> {
-        let mut raw = Raw::none();
-        // SAFETY: it is declared as in the header. The session is not open yet.
-        outcome(unsafe { covretin_channel_open(&mut raw) })?;
-        Ok(ChannelSession(raw))
+    fn owning(&mut self) -> &mut Owning<ChannelSession> {
+        self
     }
-}
 
-impl ChannelServer {
-    pub(crate) fn open() -> Result<ChannelServer, Code> {
-        let mut raw = Raw::none();
-        // SAFETY: it is declared as in the header. The session is not open yet.
-        outcome(unsafe { covretin_channel_server_open(&mut raw) })?;
-        Ok(ChannelServer(raw))
-    }
-}
-
-impl Asks for ChannelSession {
     fn take(&mut self) -> Outcome {
         self.take_reply()
-    }
-
-    fn inactive(&mut self) -> u64 {
-        0
     }
 }
 
@@ -100,9 +78,5 @@ impl Serves for ChannelServer {
 
     fn next(&mut self) -> Result<u32, Code> {
         self.next_call()
-    }
-
-    fn inactive(&mut self) -> u64 {
-        0
     }
 }

@@ -9,14 +9,12 @@ use std::net::Shutdown;
 use std::ops::Deref;
 use std::os::unix::io::{AsFd, AsRawFd, BorrowedFd, FromRawFd, OwnedFd, RawFd};
 use std::os::unix::net::UnixStream;
-use std::slice::from_raw_parts;
 
 use super::socket::{lingers, peek, set_option, Received};
 
 /// A descriptor that a peer sent. Nobody here chose what it is of, so it is closed as `drop` says, until it becomes a `File` or an
 /// `OwnedFd`.
 #[derive(Debug)]
-#[repr(transparent)]
 pub(crate) struct PeerFd(OwnedFd);
 
 impl Drop for PeerFd {
@@ -48,6 +46,13 @@ impl From<OwnedFd> for PeerFd {
     }
 }
 
+impl FromRawFd for PeerFd {
+    unsafe fn from_raw_fd(fd: RawFd) -> PeerFd {
+        // SAFETY: its caller's.
+        PeerFd(unsafe { OwnedFd::from_raw_fd(fd) })
+    }
+}
+
 /// From then on its owner decides how it is closed.
 impl From<PeerFd> for OwnedFd {
     fn from(fd: PeerFd) -> OwnedFd {
@@ -62,12 +67,6 @@ impl From<PeerFd> for File {
     fn from(fd: PeerFd) -> File {
         File::from(OwnedFd::from(fd))
     }
-}
-
-/// The numbers of descriptors.
-pub(crate) fn numbers_of(fds: &[PeerFd]) -> &[RawFd] {
-    // SAFETY: std says that an OwnedFd has the representation of its number, and a PeerFd has that of its OwnedFd.
-    unsafe { from_raw_parts(fds.as_ptr().cast(), fds.len()) }
 }
 
 /// How many messages with descriptors are looked for in a socket: more than one holds, by the limits that the system begins with. A peer

@@ -4,6 +4,7 @@
 use std::os::unix::io::RawFd;
 
 use super::moving::{calls, outcome, records, sessions, values, Asks, Code, Moves, Outcome, Raw, MAX_FDS, MAX_MESSAGE};
+use super::owning::Owning;
 use crate::vhost_user::gpu_message::{
     VhostUserGpuCursorPos, VhostUserGpuCursorUpdate, VhostUserGpuDMABUFScanout, VhostUserGpuDMABUFScanout2, VhostUserGpuScanout,
     VhostUserGpuUpdate, DISPLAY_INFO_SIZE, EDID_SIZE,
@@ -11,8 +12,7 @@ use crate::vhost_user::gpu_message::{
 
 sessions! {
     /// A device's session on the vhost-user-gpu channel.
-    DisplaySession: covretin_display_close, covretin_display_missing, covretin_display_receive, covretin_display_to_send,
-        covretin_display_unclaimed;
+    DisplaySession: "covretin_display_", open();
 }
 
 calls! {
@@ -43,25 +43,14 @@ records! {
     take_edid = covretin_display_take_edid() -> [u8; EDID_SIZE];
 }
 
-extern "C" {
-    fn covretin_display_open(display: &mut Raw) -> u32;
-}
+impl Asks for Owning<DisplaySession> {
+    type Session = DisplaySession;
 
-impl DisplaySession {
-    pub(crate) fn open() -> Result<DisplaySession, Code> {
-        let mut raw = Raw::none();
-        // SAFETY: it is declared as in the header. The session is not open yet.
-        outcome(unsafe { covretin_display_open(&mut raw) })?;
-        Ok(DisplaySession(raw))
+    fn owning(&mut self) -> &mut Owning<DisplaySession> {
+        self
     }
-}
 
-impl Asks for DisplaySession {
     fn take(&mut self) -> Outcome {
         self.take_reply()
-    }
-
-    fn inactive(&mut self) -> u64 {
-        0
     }
 }

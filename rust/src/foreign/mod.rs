@@ -10,6 +10,7 @@ mod guard;
 mod guest;
 mod listening;
 mod moving;
+mod owning;
 #[cfg(covretin_assembly)]
 mod proved;
 mod queue;
@@ -22,13 +23,14 @@ mod userfault;
 
 pub(crate) use backend_session::{BackendSession, CALL_OTHER, MAX_CONFIG};
 pub(crate) use channel::{ChannelServer, ChannelSession, Mmap};
-pub(crate) use closing::{numbers_of, PeerFd, PeerSocket};
+pub(crate) use closing::{PeerFd, PeerSocket};
 pub(crate) use display::DisplaySession;
 pub(crate) use events::{memory_file, poll, without_signals, Bell, Event, Kick, Polled, Ringer, SignalFd, Timer};
 pub(crate) use guard::{lose_all, Holder};
 pub use guest::VolatileSlice;
 pub(crate) use guest::{Mapping, Region as GuestRegion, Regions, Slices};
 pub(crate) use moving::{Asks, Code, Moves, Outcome, Serves, MAX_FDS, MAX_MESSAGE};
+pub(crate) use owning::Owning;
 pub(crate) use queue::{
     inflight_after_used, inflight_after_used_packed, inflight_before_used, inflight_before_used_packed, inflight_keep_packed,
     inflight_recover, inflight_recover_packed, inflight_take, inflight_take_packed, log_bit_of, log_pages, Chain, CoreQueue,

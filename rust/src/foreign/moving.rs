@@ -1,7 +1,8 @@
 // SPDX-License-Identifier: Apache-2.0
-//! What all sessions have: they take bytes in, and hand bytes out.
+//! What all sessions have: they take bytes in, and hand bytes out. Their calls stand in lists, a line for each.
 use std::os::unix::io::RawFd;
-use std::ptr::null_mut;
+
+use super::owning::Owning;
 
 pub(crate) const MAX_FDS: usize = 32;
 pub(crate) const MAX_MESSAGE: usize = 4108;
@@ -21,29 +22,45 @@ pub(super) fn outcome(number: u32) -> Outcome {
 
 /// `covretin_session`, `covretin_backend`, `covretin_channel`, `covretin_channel_server` and `covretin_display`.
 #[repr(C)]
-pub(super) struct Raw {
-    opaque: *mut u8,
-}
+pub(super) struct Raw(pub(super) *mut u8);
 
-impl Raw {
-    /// {0}: a session that is not open yet.
-    pub(super) fn none() -> Raw {
-        Raw { opaque: null_mut() }
-    }
-}
+// SAFETY: the header says that a session has no global state, and asks only that calls with the same one do not overlap; all of them
+// take `&mut self`, but for the drop, which owns it.
+unsafe impl Send for Raw {}
+
+// SAFETY: as above; by a shared reference no call can be made.
+unsafe impl Sync for Raw {}
 
 /// A session, whose calls are those of its header of the same name.
-pub(crate) trait Moves {
+///
+/// # Safety
+///
+/// What `claim` grants and `unclaimed` hands out was given to `receive`, and neither granted nor handed out since.
+pub(crate) unsafe trait Moves {
     fn missing(&mut self) -> usize;
-    fn receive(&mut self, bytes: &[u8], fds: &[RawFd]) -> Outcome;
     /// How many bytes and descriptors are to be sent: from the start of each list on.
     fn next_to_send(&mut self, bytes: &mut [u8; MAX_MESSAGE], fds: &mut [RawFd; MAX_FDS]) -> Result<(usize, usize), Code>;
-    /// Lets it hand out which descriptors nobody claims: whoever received them closes them.
-    fn forget_unclaimed(&mut self);
+    /// # Safety
+    ///
+    /// Only an `Owning` calls it of the session that it has, and gives up what it owned by these numbers, where that is no error.
+    unsafe fn receive(&mut self, bytes: &[u8], fds: &[RawFd]) -> Outcome;
+    fn unclaimed(&mut self, fds: &mut [RawFd; MAX_FDS]) -> usize;
+    /// Where a session has no such call, nothing that comes can be claimed.
+    fn claim(&mut self, _fd: RawFd) -> Outcome {
+        Err(OTHER_CALL)
+    }
+    fn abandon(&mut self) {}
+    /// Refuses the call that is to be replied to, if there is one.
+    fn refuse(&mut self) {}
 }
 
+/// COVRETIN_OTHER_CALL.
+const OTHER_CALL: Code = Code(110);
+
 /// A session that asks: each call is taken once its reply has come.
-pub(crate) trait Asks: Moves {
+pub(crate) trait Asks {
+    type Session: Moves;
+    fn owning(&mut self) -> &mut Owning<Self::Session>;
     /// Before a call is asked.
     fn begin(&mut self) {}
     fn take(&mut self) -> Outcome;
@@ -52,7 +69,9 @@ pub(crate) trait Asks: Moves {
         Ok(())
     }
     /// Which feature the last call lacked, where the session tells.
-    fn inactive(&mut self) -> u64;
+    fn inactive(&mut self) -> u64 {
+        0
+    }
 }
 
 /// A session that serves: each request that has come is a call, or refused.
@@ -60,85 +79,110 @@ pub(crate) trait Serves: Moves {
     fn end(&mut self) -> Outcome;
     fn next(&mut self) -> Result<u32, Code>;
     /// Which feature the last request lacked, where the session tells.
-    fn inactive(&mut self) -> u64;
+    fn inactive(&mut self) -> u64 {
+        0
+    }
     /// Whether it reads nothing more, since it could not answer whoever waits.
     fn ended(&mut self) -> bool {
         false
     }
 }
 
-/// Types of sessions, which are closed when they are dropped, by the names of these calls.
+/// Types of sessions, which are closed when they are dropped: how their calls' names begin, and what they are opened by; with `claim` and
+/// `abandon` those that keep what may be claimed, and how such a one refuses a call.
 macro_rules! sessions {
-    ($($(#[$doc:meta])* $Name:ident: $close:ident, $missing:ident, $receive:ident, $to_send:ident, $unclaimed:ident;)*) => {$(
-        extern "C" {
-            fn $close(session: &mut Raw);
-            fn $missing(session: &mut Raw) -> usize;
-            fn $receive(session: &mut Raw, bytes: *const u8, bytes_len: usize, fds: *const i32, fds_len: usize) -> u32;
-            fn $to_send(
-                session: &mut Raw,
-                bytes: *mut u8,
-                bytes_len: usize,
-                fds: *mut i32,
-                fds_len: usize,
-                byte_count: &mut usize,
-                fd_count: &mut usize,
-            ) -> u32;
-            fn $unclaimed(session: &mut Raw, fds: *mut i32, fds_len: usize, count: &mut usize) -> u32;
-        }
-
+    ($($(#[$doc:meta])* $Name:ident: $prefix:literal, open($($arg:ident: $ty:ty),*)
+        $(, $claim:ident, $abandon:ident $(, $refuse:ident($($no:literal)?))?)?;)*) => {$(
         $(#[$doc])*
         pub(crate) struct $Name(Raw);
 
-        // SAFETY: the header says that a session has no global state, and asks only that calls with the same one do not overlap;
-        // all of them take `&mut self`, but for the drop, which owns it.
-        unsafe impl Send for $Name {}
-
-        // SAFETY: as above; by a shared reference no call can be made.
-        unsafe impl Sync for $Name {}
-
         // SAFETY, of each call: it is declared as in the header. The session is open, and borrowed by this call alone. Each list
         // is a slice that is borrowed for the call, given by its pointer, which is never null, and its own length; what is written
-        // is borrowed mutably, so no two of them overlap.
-        impl Moves for $Name {
-            fn missing(&mut self) -> usize {
-                // SAFETY: as above.
-                unsafe { $missing(&mut self.0) }
+        // is borrowed mutably, so no two of them overlap. Any number may be passed.
+        const _: () = {
+            extern "C" {
+                #[link_name = concat!($prefix, "open")]
+                fn open(session: &mut Raw, $($arg: $ty),*) -> u32;
+                #[link_name = concat!($prefix, "close")]
+                fn close(session: &mut Raw);
+                #[link_name = concat!($prefix, "missing")]
+                fn missing(session: &mut Raw) -> usize;
+                #[link_name = concat!($prefix, "receive")]
+                fn receive(session: &mut Raw, bytes: *const u8, bytes_len: usize, fds: *const i32, fds_len: usize) -> u32;
+                #[link_name = concat!($prefix, "to_send")]
+                fn to_send(session: &mut Raw, bytes: *mut u8, bytes_len: usize, fds: *mut i32, fds_len: usize,
+                    byte_count: &mut usize, fd_count: &mut usize) -> u32;
+                #[link_name = concat!($prefix, "unclaimed")]
+                fn unclaimed(session: &mut Raw, fds: *mut i32, fds_len: usize, count: &mut usize) -> u32;
+                $(
+                    #[link_name = concat!($prefix, stringify!($claim))]
+                    fn claim(session: &mut Raw, fd: i32) -> u32;
+                    #[link_name = concat!($prefix, stringify!($abandon))]
+                    fn abandon(session: &mut Raw) -> u32;
+                )?
             }
 
-            fn receive(&mut self, bytes: &[u8], fds: &[RawFd]) -> Outcome {
-                // SAFETY: as above.
-                outcome(unsafe { $receive(&mut self.0, bytes.as_ptr(), bytes.len(), fds.as_ptr(), fds.len()) })
+            impl $Name {
+                pub(crate) fn open($($arg: $ty),*) -> Result<$Name, Code> {
+                    let mut raw = Raw(std::ptr::null_mut());
+                    // SAFETY: as above; it is {0}, and not open yet.
+                    outcome(unsafe { open(&mut raw, $($arg),*) })?;
+                    Ok($Name(raw))
+                }
             }
 
-            fn next_to_send(
-                &mut self,
-                bytes: &mut [u8; MAX_MESSAGE],
-                fds: &mut [RawFd; MAX_FDS],
-            ) -> Result<(usize, usize), Code> {
-                let (bytes, fds) = (&mut bytes[..], &mut fds[..]);
-                let (mut byte_count, mut fd_count) = (0, 0);
-                // SAFETY: as above.
-                outcome(unsafe {
-                    let (room, places) = (bytes.as_mut_ptr(), fds.as_mut_ptr());
-                    $to_send(&mut self.0, room, bytes.len(), places, fds.len(), &mut byte_count, &mut fd_count)
-                })?;
-                Ok((byte_count, fd_count))
+            // SAFETY: it is proved of the library's sessions that each number that came is claimed once or handed out once, and none other.
+            unsafe impl Moves for $Name {
+                fn missing(&mut self) -> usize {
+                    // SAFETY: as above.
+                    unsafe { missing(&mut self.0) }
+                }
+
+                fn next_to_send(&mut self, bytes: &mut [u8; MAX_MESSAGE], fds: &mut [RawFd; MAX_FDS]) -> Result<(usize, usize), Code> {
+                    let (mut count, mut fd_count) = (0, 0);
+                    let (bytes, fds) = (bytes.as_mut_ptr(), fds.as_mut_ptr());
+                    // SAFETY: as above.
+                    outcome(unsafe { to_send(&mut self.0, bytes, MAX_MESSAGE, fds, MAX_FDS, &mut count, &mut fd_count) })?;
+                    Ok((count, fd_count))
+                }
+
+                unsafe fn receive(&mut self, bytes: &[u8], fds: &[RawFd]) -> Outcome {
+                    // SAFETY: as above.
+                    outcome(unsafe { receive(&mut self.0, bytes.as_ptr(), bytes.len(), fds.as_ptr(), fds.len()) })
+                }
+
+                fn unclaimed(&mut self, fds: &mut [RawFd; MAX_FDS]) -> usize {
+                    let mut count = 0;
+                    // SAFETY: as above. (An open session has no error here.)
+                    unsafe { unclaimed(&mut self.0, fds.as_mut_ptr(), MAX_FDS, &mut count) };
+                    count
+                }
+
+                $(
+                    fn claim(&mut self, fd: RawFd) -> Outcome {
+                        // SAFETY: as above.
+                        outcome(unsafe { claim(&mut self.0, fd) })
+                    }
+
+                    fn abandon(&mut self) {
+                        // SAFETY: as above.
+                        unsafe { abandon(&mut self.0) };
+                    }
+
+                    $(fn refuse(&mut self) {
+                        // (an error says that there is none, or that the device refused)
+                        let _ = self.$refuse($($no)?);
+                    })?
+                )?
             }
 
-            fn forget_unclaimed(&mut self) {
-                let mut fds = [-1; MAX_FDS];
-                let mut count = 1;
-                // SAFETY: as above.
-                while count != 0 && unsafe { $unclaimed(&mut self.0, fds.as_mut_ptr(), fds.len(), &mut count) } == 0 {}
+            impl Drop for $Name {
+                fn drop(&mut self) {
+                    // SAFETY: as above; nobody has it after this.
+                    unsafe { close(&mut self.0) }
+                }
             }
-        }
-
-        impl Drop for $Name {
-            fn drop(&mut self) {
-                // SAFETY: as above; nobody has it after this.
-                unsafe { $close(&mut self.0) }
-            }
-        }
+        };
     )*};
 }
 

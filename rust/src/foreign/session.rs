@@ -3,7 +3,7 @@
 //! error comes, stands there.
 use std::os::unix::io::RawFd;
 
-use super::moving::{calls, outcome, sessions, values, Asks, Code, Moves, Outcome, Raw, MAX_FDS, MAX_MESSAGE};
+use super::moving::{calls, outcome, sessions, values, Code, Moves, Outcome, Raw, MAX_FDS, MAX_MESSAGE};
 
 /// `covretin_region`.
 #[repr(C)]
@@ -56,7 +56,7 @@ pub(crate) struct Config {
 
 sessions! {
     /// A frontend's session.
-    Session: covretin_close, covretin_missing, covretin_receive, covretin_to_send, covretin_unclaimed;
+    Session: "covretin_", open(max_queue_num: u64), claim, abandon;
 }
 
 calls! {
@@ -116,25 +116,12 @@ values! {
 }
 
 extern "C" {
-    fn covretin_open(session: &mut Raw, max_queue_num: u64) -> u32;
     fn covretin_inactive(session: &mut Raw) -> u64;
 }
 
 impl Session {
-    pub(crate) fn open(max_queue_num: u64) -> Result<Session, Code> {
-        let mut raw = Raw::none();
-        // SAFETY: it is declared as in the header. The session is not open yet.
-        outcome(unsafe { covretin_open(&mut raw, max_queue_num) })?;
-        Ok(Session(raw))
-    }
-}
-
-impl Asks for Session {
-    fn take(&mut self) -> Outcome {
-        self.take_reply()
-    }
-
-    fn inactive(&mut self) -> u64 {
+    /// Which feature the last call lacked.
+    pub(crate) fn inactive(&mut self) -> u64 {
         // SAFETY: it is declared as in the header. The session is open, and borrowed by this call alone.
         unsafe { covretin_inactive(&mut self.0) }
     }

@@ -2,6 +2,7 @@
 //! Judges a session by the proved core: its requests go through a serving session of the library, and each reply is compared with
 //! what that session would have written, given the answer that the reply holds.
 use std::collections::VecDeque;
+use std::os::unix::io::RawFd;
 
 use super::call::{answer, form_of, is_awaited, is_refusal, stand_ins, Form};
 use super::differences::differences;
@@ -9,7 +10,7 @@ use super::event::{count_of, number_at, Event, Message, What, HEADER, TO_BACKEND
 use super::layout::name_of;
 use super::refused::{has_own_reply, why};
 use super::unserved::{stands_for, StandIn};
-use crate::foreign::{BackendSession, Code, Moves, Serves, MAX_FDS, MAX_MESSAGE};
+use crate::foreign::{BackendSession, Code, Moves, Owning, Serves, MAX_FDS, MAX_MESSAGE};
 use crate::vhost_user::message::{FrontendReq, VhostUserHeaderFlag, VhostUserProtocolFeatures, VhostUserVirtioFeatures};
 use crate::vhost_user::Profile;
 
@@ -21,6 +22,9 @@ const MOST_REFUSED: usize = 64;
 const MOST_WAITING: usize = 1024;
 /// There and back.
 const WAYS: usize = 2;
+
+/// A session whose numbers are no descriptors: none is ever closed.
+type Judging = Owning<BackendSession, RawFd>;
 
 /// What the two sides agreed on, as far as acknowledgements depend on it.
 #[derive(Default)]
@@ -69,7 +73,7 @@ enum Owed {
 pub(super) struct Judge {
     profile: Profile,
     /// None: it judges no more.
-    session: Option<BackendSession>,
+    session: Option<Judging>,
     agreed: Agreed,
     /// Requests behind one whose reply is awaited.
     waiting: VecDeque<(f64, Message)>,
@@ -86,7 +90,8 @@ pub(super) struct Judge {
 
 impl Judge {
     pub(super) fn new(profile: Profile) -> Judge {
-        let session = BackendSession::open().and_then(|mut session| session.set_profile(profile as u32).map(|()| session));
+        let opened = BackendSession::open().map(Judging::new);
+        let session = opened.and_then(|mut session| session.set_profile(profile as u32).map(|()| session));
         let complaints = session.as_ref().err().map(|_| "there is no memory to judge by".to_string());
         Judge {
             profile,
@@ -196,7 +201,7 @@ impl Judge {
     }
 
     /// Judges one request. Where the session is kept the judging goes on.
-    fn judge(&mut self, mut session: BackendSession, time: f64, request: Message) {
+    fn judge(&mut self, mut session: Judging, time: f64, request: Message) {
         let given = match self.given_for(&request) {
             Given::Bytes(bytes) => bytes,
             Given::Nothing(owed) => {
@@ -420,16 +425,16 @@ enum Given {
 }
 
 /// Gives a request to the session, whose descriptors are those of another: what it asks of the device.
-fn next_call(session: &mut BackendSession, bytes: &[u8], request: &Message) -> Result<u32, Code> {
+fn next_call(session: &mut Judging, bytes: &[u8], request: &Message) -> Result<u32, Code> {
     let (head, body) = bytes.split_at(HEADER);
     // (those of the requests before)
-    session.forget_unclaimed();
-    session.receive(head, &stand_ins(request.own_fds()))?;
+    session.settle();
+    session.receive(head, &mut stand_ins(request.own_fds()))?;
     // (none of an invalid header)
     let body = &body[..session.missing().min(body.len())];
     if !body.is_empty() {
         // (any of them refuse it; without its body the session would take the next request for that)
-        session.receive(body, &stand_ins(request.body_fds.min(MAX_FDS)))?;
+        session.receive(body, &mut stand_ins(request.body_fds.min(MAX_FDS)))?;
     }
     session.next()
 }

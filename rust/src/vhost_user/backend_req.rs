@@ -9,7 +9,7 @@ use std::time::Duration;
 use super::connection::Connection;
 use super::message::{VhostUserMMap, VhostUserSharedMsg};
 use super::{Error, HandlerResult, VhostUserFrontendReqHandler};
-use crate::foreign::{ChannelSession, Mmap, Outcome, PeerSocket};
+use crate::foreign::{ChannelSession, Mmap, Outcome, Owning, PeerSocket};
 
 /// The backend channel: on it a device makes requests of its frontend. A clone is the same connection: each call is whole before
 /// another thread's begins.
@@ -20,7 +20,7 @@ use crate::foreign::{ChannelSession, Mmap, Outcome, PeerSocket};
 /// which nothing of the request was sent, as [`Error`] says.
 #[derive(Clone)]
 pub struct Backend {
-    node: Arc<Mutex<Connection<ChannelSession>>>,
+    node: Arc<Mutex<Connection<Owning<ChannelSession>>>>,
 }
 
 impl Backend {
@@ -28,7 +28,7 @@ impl Backend {
     /// panics where an allocation fails.
     pub fn from_stream(sock: UnixStream) -> Self {
         // (the crate's name for this returns no Result)
-        let session = ChannelSession::open().expect("allocation of a session failed");
+        let session = Owning::new(ChannelSession::open().expect("allocation of a session failed"));
         Backend { node: Arc::new(Mutex::new(Connection::over(session, PeerSocket::given(sock)))) }
     }
 
@@ -64,15 +64,15 @@ impl Backend {
         self.node().set_failed(error);
     }
 
-    fn node(&self) -> MutexGuard<'_, Connection<ChannelSession>> {
+    fn node(&self) -> MutexGuard<'_, Connection<Owning<ChannelSession>>> {
         // A thread that panicked amid a call left no half of a message: what ends one stands in the connection.
         self.node.lock().unwrap_or_else(PoisonError::into_inner)
     }
 
     /// A call of a feature of this name.
     fn ask(&self, feature: &str, ask: impl FnOnce(&mut ChannelSession) -> Outcome) -> HandlerResult<u64> {
-        match self.node().call(ask) {
-            Ok(_) => Ok(0),
+        match self.node().call(|session| ask(session)) {
+            Ok(()) => Ok(0),
             Err(Error::InactiveOperation(_)) => {
                 Err(io::Error::new(io::ErrorKind::Other, format!("{feature} feature not negotiated")))
             }

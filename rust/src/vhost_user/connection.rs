@@ -9,10 +9,10 @@ use std::time::Duration;
 
 use super::frontend_session::FrontendSession;
 use super::transport::{
-    broken_by, end_after, error_of, last_error, receive_piece, send_all, send_piece, take_from, End, Sending, Unsent, HEADER,
+    broken_by, end_after, error_of, last_error, receive_piece, send_all, send_piece, End, Sending, Unsent, HEADER,
 };
 use super::{Error, Result};
-use crate::foreign::{numbers_of, Asks, Code, Outcome, PeerFd, PeerSocket, MAX_MESSAGE};
+use crate::foreign::{Asks, Code, Moves, Outcome, PeerFd, PeerSocket, MAX_MESSAGE};
 
 /// A connection of a frontend to its backend; or on the backend channel the other way round.
 pub(super) struct Connection<S: Asks> {
@@ -62,19 +62,37 @@ impl<S: Asks> Connection<S> {
         let _ = set(&mut self.session);
     }
 
-    /// Makes a call whole: asks, sends the request, receives the reply and takes it. What it returns came with that reply.
-    pub(super) fn call(&mut self, ask: impl FnOnce(&mut S) -> Outcome) -> Result<Vec<PeerFd>> {
-        let ((), fds) = self.call_by(ask, &[], S::take)?;
-        Ok(fds)
+    /// Makes a call whole: asks, sends the request, receives the reply and takes it.
+    pub(super) fn call(&mut self, ask: impl FnOnce(&mut S) -> Outcome) -> Result<()> {
+        self.call_by(ask, &[], S::take)?;
+        self.session.owning().settle();
+        Ok(())
     }
 
-    /// The same, with bytes of the caller's behind the request, whose reply is taken so.
+    /// The same of a call whose reply may bring a file: what is read of it with that one's number, which is negative where there is none.
+    pub(super) fn call_for_file<T>(
+        &mut self,
+        ask: impl FnOnce(&mut S) -> Outcome,
+        read: impl FnOnce(&mut S) -> result::Result<(T, RawFd), Code>,
+    ) -> Result<(T, Option<File>)> {
+        self.call_by(ask, &[], S::take)?;
+        let (value, fd) = self.answer(read)?;
+        let session = self.session.owning();
+        let claimed = if fd < 0 { Ok(None) } else { session.claim(fd).map(Some) };
+        session.settle();
+        match claimed {
+            Ok(fd) => Ok((value, fd.map(File::from))),
+            Err(_) => Err(self.break_by(Error::InvalidMessage)),
+        }
+    }
+
+    /// A call with bytes of the caller's behind the request, whose reply is taken so.
     pub(super) fn call_by<T>(
         &mut self,
         ask: impl FnOnce(&mut S) -> Outcome,
         behind: &[u8],
         take: impl FnOnce(&mut S) -> result::Result<T, Code>,
-    ) -> Result<(T, Vec<PeerFd>)> {
+    ) -> Result<T> {
         if let Some(errno) = self.broken {
             return Err(broken_by(errno));
         }
@@ -88,20 +106,16 @@ impl<S: Asks> Connection<S> {
             Err(Unsent::Whole(error)) => return Err(self.take_back(error, take)),
             Err(Unsent::Part(error)) => return Err(self.break_by(error)),
         };
-        let (fds, is_last) = self.receive_all(sent, end).map_err(|error| self.break_by(error))?;
-        let has_fds = !fds.is_empty();
+        let is_last = self.receive_all(sent, end).map_err(|error| self.break_by(error))?;
         let taken = match take(&mut self.session) {
             Ok(value) => {
                 self.broken = None;
-                Ok((value, fds))
+                Ok(value)
             }
             Err(code) => Err(self.refusal(code)),
         };
         if !is_last {
             self.broken = Some(libc::EPROTO);
-        }
-        if has_fds {
-            self.session.forget_unclaimed();
         }
         taken
     }
@@ -111,14 +125,9 @@ impl<S: Asks> Connection<S> {
         read(&mut self.session).map_err(|code| self.error_of(code))
     }
 
-    /// The descriptor of this number, of those that came with the reply.
-    pub(super) fn claim(&mut self, mut fds: Vec<PeerFd>, fd: RawFd) -> Result<File> {
-        take_from(&mut fds, fd).map(File::from).map_err(|error| self.break_by(error))
-    }
-
     /// Sends the request, with what is behind it: how many bytes the request had.
     fn send(&mut self, behind: &[u8], end: End) -> Sending {
-        let sent = send_all(&self.socket, &mut self.session, &mut self.bytes, end)?;
+        let sent = send_all(&self.socket, &mut **self.session.owning(), &mut self.bytes, end)?;
         if !behind.is_empty() {
             // (the request is out)
             send_piece(&self.socket, behind, &[], end).map_err(Error::from)?;
@@ -142,45 +151,40 @@ impl<S: Asks> Connection<S> {
     }
 
     fn try_to_take_back<T>(&mut self, take: impl FnOnce(&mut S) -> result::Result<T, Code>) -> Outcome {
-        if self.session.missing() != 0 {
+        if self.session.owning().missing() != 0 {
             // A header of zeros is that of no reply: so the call fails, and nothing more is awaited.
-            self.session.receive(&[0; HEADER], &[])?;
+            self.session.owning().receive(&[0; HEADER], &mut Vec::new())?;
         }
         let _ = take(&mut self.session);
         self.session.undo()
     }
 
-    /// Receives what is missing of the reply to a request of so many bytes: the descriptors that came with its first byte, and whether
-    /// nothing came behind it, which nobody would await.
+    /// Receives what is missing of the reply to a request of so many bytes: whether nothing came behind it, which nobody would await.
     ///
     /// The reply is all that may come, and may be as long as its request: so its header and its body come by one call. InvalidMessage:
     /// descriptors came, and bytes behind the reply, to which they may belong.
-    fn receive_all(&mut self, sent: usize, end: End) -> Result<(Vec<PeerFd>, bool)> {
-        let mut fds = Vec::new();
-        let missing = self.session.missing();
-        if missing == 0 {
-            return Ok((fds, true));
-        }
-        let count = self.receive_piece(missing.max(sent), &mut fds, end)?;
-        let mut at = count.min(missing);
-        self.hand_in(0, at, numbers_of(&fds))?;
-        let kept = fds.len();
+    fn receive_all(&mut self, mut sent: usize, end: End) -> Result<bool> {
+        let (mut fds, mut has_fds) = (Vec::new(), false);
+        let (mut at, mut count) = (0, 0);
         loop {
-            match self.session.missing() {
-                0 if at < count && !fds.is_empty() => return Err(Error::InvalidMessage),
-                0 => return Ok((fds, at == count)),
-                missing if at < count => {
-                    let part = missing.min(count - at);
-                    self.hand_in(at, part, &[])?;
-                    at += part;
-                }
-                missing => {
-                    let part = self.receive_piece(missing, &mut fds, end)?;
-                    // The protocol gives no meaning to descriptors behind a reply's first byte: those are closed here.
-                    fds.truncate(kept);
-                    self.hand_in(0, part, &[])?;
+            let missing = self.session.owning().missing();
+            match missing {
+                0 if at < count && has_fds => return Err(Error::InvalidMessage),
+                0 => return Ok(at == count),
+                _ if at < count => {}
+                _ => {
+                    count = self.receive_piece(missing.max(sent), &mut fds, end)?;
+                    if at != 0 {
+                        // The protocol gives no meaning to descriptors behind a reply's first byte: those are closed here.
+                        fds.clear();
+                    }
+                    (at, sent, has_fds) = (0, 0, has_fds || !fds.is_empty());
                 }
             }
+            let part = missing.min(count - at);
+            let handed_in = self.session.owning().receive(&self.bytes[at..at + part], &mut fds);
+            handed_in.map_err(|code| self.error_of(code))?;
+            at += part;
         }
     }
 
@@ -192,16 +196,12 @@ impl<S: Asks> Connection<S> {
         }
     }
 
-    /// Hands the session so many bytes, with these descriptors.
-    fn hand_in(&mut self, at: usize, count: usize, fds: &[RawFd]) -> Result<()> {
-        self.session.receive(&self.bytes[at..at + count], fds).map_err(|code| self.error_of(code))
-    }
-
     /// Ends the connection by this error.
     #[cold]
     fn break_by(&mut self, error: Error) -> Error {
         let (error, errno) = last_error(error);
         self.broken = Some(errno);
+        self.session.owning().give_up();
         error
     }
 
@@ -211,6 +211,7 @@ impl<S: Asks> Connection<S> {
         match self.error_of(code) {
             error @ (Error::BackendInternalError | Error::FrontendInternalError | Error::IncorrectFds) => {
                 self.broken = None;
+                self.session.owning().settle();
                 error
             }
             error => self.break_by(error),

@@ -249,12 +249,8 @@ impl Frontend {
 
     /// A call whose value is a file, or nothing.
     fn file(&self, ask: impl FnOnce(&mut FrontendSession) -> Outcome) -> Result<Option<File>> {
-        let mut node = self.node();
-        let fds = node.call(ask)?;
-        match node.answer(|session| session.answer_fd())? {
-            fd if fd < 0 => Ok(None),
-            fd => Ok(Some(node.claim(fds, fd)?)),
-        }
+        let ((), file) = self.node().call_for_file(ask, |session| Ok(((), session.answer_fd()?)))?;
+        Ok(file)
     }
 
     /// A call whose value is a file.
@@ -429,10 +425,9 @@ impl VhostUserFrontend for Frontend {
     }
 
     fn get_inflight_fd(&mut self, inflight: &VhostUserInflight) -> Result<(VhostUserInflight, File)> {
-        let mut node = self.node();
-        let fds = node.call(|session| session.get_inflight_fd(&inflight_of(inflight)))?;
-        let (found, fd) = node.answer(|session| session.answer_inflight())?;
-        let file = node.claim(fds, fd)?;
+        let ask = |session: &mut FrontendSession| session.get_inflight_fd(&inflight_of(inflight));
+        let (found, file) = self.node().call_for_file(ask, |session| session.answer_inflight())?;
+        let file = file.ok_or(VhostUserError::IncorrectFds)?;
         let Inflight { mmap_size, mmap_offset, num_queues, queue_size } = found;
         Ok((VhostUserInflight::new(mmap_size, mmap_offset, num_queues, queue_size), file))
     }

@@ -2,10 +2,9 @@
 //! A frontend's session of the proved library, with what its requests changed in it: one that was not sent is taken back.
 use std::mem::take;
 use std::ops::{Deref, DerefMut};
-use std::os::unix::io::RawFd;
 
 use super::transport::HEADER;
-use crate::foreign::{Asks, Code, Moves, Outcome, Session, MAX_FDS, MAX_MESSAGE};
+use crate::foreign::{Asks, Code, Moves, Outcome, Owning, Session, MAX_FDS, MAX_MESSAGE};
 
 /// What a session has by the requests that were made.
 #[derive(Clone, Copy, Default)]
@@ -28,7 +27,7 @@ enum Change {
 
 /// A session: with the calls of `Session`, of which those that change it are counted here.
 pub(super) struct FrontendSession {
-    session: Session,
+    session: Owning<Session>,
     agreed: Agreed,
     /// The same before the call that was asked last.
     before: Agreed,
@@ -37,7 +36,7 @@ pub(super) struct FrontendSession {
 
 impl FrontendSession {
     pub(super) fn open(max_queue_num: u64) -> Result<FrontendSession, Code> {
-        let session = Session::open(max_queue_num)?;
+        let session = Owning::new(Session::open(max_queue_num)?);
         Ok(FrontendSession { session, agreed: Agreed::default(), before: Agreed::default(), change: Change::Nothing })
     }
 
@@ -79,39 +78,27 @@ impl FrontendSession {
         bytes[HEADER..HEADER + 8].copy_from_slice(&number.to_le_bytes());
         for piece in [&bytes[..HEADER], &bytes[HEADER..HEADER + 8]] {
             if self.session.missing() != 0 {
-                self.session.receive(piece, &[])?;
+                self.session.receive(piece, &mut Vec::new())?;
             }
         }
-        self.session.take()
-    }
-}
-
-impl Moves for FrontendSession {
-    fn missing(&mut self) -> usize {
-        self.session.missing()
-    }
-
-    fn receive(&mut self, bytes: &[u8], fds: &[RawFd]) -> Outcome {
-        self.session.receive(bytes, fds)
-    }
-
-    fn next_to_send(&mut self, bytes: &mut [u8; MAX_MESSAGE], fds: &mut [RawFd; MAX_FDS]) -> Result<(usize, usize), Code> {
-        self.session.next_to_send(bytes, fds)
-    }
-
-    fn forget_unclaimed(&mut self) {
-        self.session.forget_unclaimed();
+        self.session.take_reply()
     }
 }
 
 impl Asks for FrontendSession {
+    type Session = Session;
+
+    fn owning(&mut self) -> &mut Owning<Session> {
+        &mut self.session
+    }
+
     fn begin(&mut self) {
         self.before = self.agreed;
         self.change = Change::Nothing;
     }
 
     fn take(&mut self) -> Outcome {
-        self.session.take()?;
+        self.session.take_reply()?;
         match take(&mut self.change) {
             Change::Nothing => {}
             Change::Offered => self.agreed.offered = self.session.answer_number()?,

@@ -13,7 +13,7 @@ use super::gpu_message::{
     VhostUserGpuEdidRequest, VhostUserGpuScanout, VhostUserGpuUpdate, VirtioGpuRespDisplayInfo, VirtioGpuRespGetEdid,
 };
 use super::message::VhostUserU64;
-use crate::foreign::{Asks, Code, DisplaySession, Outcome, PeerSocket};
+use crate::foreign::{Code, DisplaySession, Outcome, Owning, PeerSocket};
 
 /// The vhost-user-gpu channel: on it a graphics device makes requests of the display that its frontend has. A clone is the same
 /// connection: each call is whole before another thread's begins.
@@ -24,14 +24,14 @@ use crate::foreign::{Asks, Code, DisplaySession, Outcome, PeerSocket};
 /// says.
 #[derive(Clone)]
 pub struct GpuBackend {
-    node: Arc<Mutex<Connection<DisplaySession>>>,
+    node: Arc<Mutex<Connection<Owning<DisplaySession>>>>,
 }
 
 impl GpuBackend {
     /// The channel over a connected socket, whose read timeout becomes the limit of time. It panics where an allocation fails.
     pub fn from_stream(sock: UnixStream) -> Self {
         // (the crate's name for this returns no Result)
-        let session = DisplaySession::open().expect("allocation of a session failed");
+        let session = Owning::new(DisplaySession::open().expect("allocation of a session failed"));
         GpuBackend { node: Arc::new(Mutex::new(Connection::over(session, PeerSocket::given(sock)))) }
     }
 
@@ -65,7 +65,7 @@ impl GpuBackend {
 
     /// A rectangle of a screen has these pixels: 4 bytes are one, and a row follows the other. They are sent from where they are.
     pub fn update_scanout(&self, update: &VhostUserGpuUpdate, data: &[u8]) -> io::Result<()> {
-        self.call(|session| session.update_scanout(update, data.len()), data, Asks::take)
+        self.call(|session| session.update_scanout(update, data.len()), data, DisplaySession::take_reply)
     }
 
     /// A rectangle of a screen shows a buffer of the graphics card, whose descriptor stays the caller's.
@@ -97,7 +97,7 @@ impl GpuBackend {
 
     /// The cursor has this image.
     pub fn cursor_update(&self, cursor_update: &VhostUserGpuCursorUpdate, data: &[u8; 4 * 64 * 64]) -> io::Result<()> {
-        self.call(|session| session.cursor_update(cursor_update), data, Asks::take)
+        self.call(|session| session.cursor_update(cursor_update), data, DisplaySession::take_reply)
     }
 
     /// Limits the time of each call, all of it, with its pixels; None: no limit. A call that takes longer ends the channel:
@@ -111,14 +111,14 @@ impl GpuBackend {
         self.node().set_failed(error);
     }
 
-    fn node(&self) -> MutexGuard<'_, Connection<DisplaySession>> {
+    fn node(&self) -> MutexGuard<'_, Connection<Owning<DisplaySession>>> {
         // A thread that panicked amid a call left no half of a message: what ends one stands in the connection.
         self.node.lock().unwrap_or_else(PoisonError::into_inner)
     }
 
     /// A call without a value.
     fn tell(&self, ask: impl FnOnce(&mut DisplaySession) -> Outcome) -> io::Result<()> {
-        self.call(ask, &[], Asks::take)
+        self.call(ask, &[], DisplaySession::take_reply)
     }
 
     /// A call, with the pixels behind its request, whose reply is taken by its form.
@@ -128,8 +128,7 @@ impl GpuBackend {
         pixels: &[u8],
         take: impl FnOnce(&mut DisplaySession) -> result::Result<T, Code>,
     ) -> io::Result<T> {
-        let (value, _) = self.node().call_by(ask, pixels, take)?;
-        Ok(value)
+        Ok(self.node().call_by(|session| ask(session), pixels, |session| take(session))?)
     }
 }
 

@@ -3,11 +3,11 @@
 use std::os::unix::io::{AsRawFd, RawFd};
 use std::os::unix::net::UnixStream;
 use std::time::Duration;
-use std::{io, mem::take, result};
+use std::{io, result};
 
-use super::transport::{broken_by, end_after, error_of, last_error, receive_ready, send_all, take_from};
+use super::transport::{broken_by, end_after, error_of, last_error, receive_ready, send_all};
 use super::{Error, Result};
-use crate::foreign::{numbers_of, Code, Outcome, PeerFd, PeerSocket, Serves, MAX_MESSAGE};
+use crate::foreign::{Code, Outcome, Owning, PeerFd, PeerSocket, Serves, MAX_MESSAGE};
 
 /// COVRETIN_INVALID_OPERATION.
 const INVALID_OPERATION: Code = Code(2);
@@ -17,16 +17,12 @@ const CODE_SIZE: usize = 4;
 
 /// A connection of a backend to its frontend; or on the backend channel the other way round.
 pub(super) struct ServedConnection<S: Serves> {
-    session: S,
+    session: Owning<S>,
     socket: PeerSocket,
     /// How long it may take to send a reply.
     send_timeout: Option<Duration>,
     /// Bytes that were received, and then those of the reply: a request is received whole before it is replied to.
     bytes: Box<[u8; MAX_MESSAGE]>,
-    /// What came with the first byte of the request that is received or served, and was not claimed.
-    fds: Vec<PeerFd>,
-    /// Whether some came with it.
-    has_fds: bool,
     /// Whether a part of a request has come that was neither replied to nor refused.
     has_begun: bool,
     /// The first bytes of the request that came last, of its number.
@@ -39,18 +35,8 @@ impl<S: Serves> ServedConnection<S> {
     /// A write timeout of the socket becomes the limit of time of each reply.
     pub(super) fn over(session: S, socket: UnixStream) -> ServedConnection<S> {
         let send_timeout = socket.write_timeout().ok().flatten();
-        let (socket, bytes) = (PeerSocket::own(socket), Box::new([0; MAX_MESSAGE]));
-        ServedConnection {
-            session,
-            socket,
-            send_timeout,
-            bytes,
-            fds: Vec::new(),
-            has_fds: false,
-            has_begun: false,
-            code: Vec::new(),
-            broken: None,
-        }
+        let (session, socket, bytes) = (Owning::new(session), PeerSocket::own(socket), Box::new([0; MAX_MESSAGE]));
+        ServedConnection { session, socket, send_timeout, bytes, has_begun: false, code: Vec::new(), broken: None }
     }
 
     pub(super) fn set_send_timeout(&mut self, timeout: Option<Duration>) {
@@ -119,11 +105,6 @@ impl<S: Serves> ServedConnection<S> {
         read(&mut self.session).map_err(|code| error_of(code, 0))
     }
 
-    /// The descriptor of this number, of those that came with the request.
-    pub(super) fn claim(&mut self, fd: RawFd) -> Result<PeerFd> {
-        take_from(&mut self.fds, fd).map_err(|error| self.break_by(error))
-    }
-
     /// The same, which may write to a buffer for bytes.
     pub(super) fn argument_bytes<T>(
         &mut self,
@@ -131,6 +112,11 @@ impl<S: Serves> ServedConnection<S> {
     ) -> Result<(T, &[u8; MAX_MESSAGE])> {
         let read = read(&mut self.session, &mut self.bytes).map_err(|code| error_of(code, 0))?;
         Ok((read, &self.bytes))
+    }
+
+    /// The descriptor of this number, of those that came with the request.
+    pub(super) fn claim(&mut self, fd: RawFd) -> Result<PeerFd> {
+        self.session.claim(fd).map_err(|_| self.break_by(Error::InvalidMessage))
     }
 
     /// Receives what is missing of the request.
@@ -141,8 +127,8 @@ impl<S: Serves> ServedConnection<S> {
             if missing == 0 {
                 return Ok(());
             }
-            let kept = self.fds.len();
-            let count = match receive_ready(&self.socket, &mut self.bytes[..missing], &mut self.fds, true) {
+            let mut fds = Vec::new();
+            let count = match receive_ready(&self.socket, &mut self.bytes[..missing], &mut fds, true) {
                 Ok(count) => count,
                 Err(Error::SocketRetry(cause)) => return Err(Error::SocketRetry(cause)),
                 Err(error) => return Err(self.break_by(error)),
@@ -151,17 +137,9 @@ impl<S: Serves> ServedConnection<S> {
                 return Err(self.end());
             }
             self.note_code(count);
-            let numbers = numbers_of(&self.fds[kept..]);
-            if let Err(code) = self.session.receive(&self.bytes[..count], numbers) {
+            if let Err(code) = self.session.receive(&self.bytes[..count], &mut fds) {
                 return Err(self.break_by(error_of(code, 0)));
             }
-            // The session was told of descriptors behind the first byte, and names none of them: however many a peer sends, those
-            // are closed here.
-            if self.has_begun && self.fds.len() > kept {
-                self.fds.truncate(kept);
-                self.session.forget_unclaimed();
-            }
-            self.has_fds |= !self.fds.is_empty();
             self.has_begun = true;
         }
     }
@@ -177,11 +155,8 @@ impl<S: Serves> ServedConnection<S> {
 
     /// The request was replied to, or refused. What came with it and was not claimed is closed.
     fn end_request(&mut self) {
-        self.fds.clear();
         self.has_begun = false;
-        if take(&mut self.has_fds) {
-            self.session.forget_unclaimed();
-        }
+        self.session.settle();
     }
 
     /// What it means that the stream ended here. Between two requests it can be asked again.
@@ -223,7 +198,7 @@ impl<S: Serves> ServedConnection<S> {
 
     fn send(&mut self) -> Result<()> {
         let end = end_after(self.send_timeout);
-        match send_all(&self.socket, &mut self.session, &mut self.bytes, end) {
+        match send_all(&self.socket, &mut *self.session, &mut self.bytes, end) {
             Ok(_) => Ok(()),
             // Also where nothing was sent: who waits for a reply is hung up on.
             Err(unsent) => Err(self.break_by(unsent.into())),
@@ -235,7 +210,7 @@ impl<S: Serves> ServedConnection<S> {
     pub(super) fn break_by(&mut self, error: Error) -> Error {
         let (error, errno) = last_error(error);
         self.broken = Some(errno);
-        self.fds.clear();
+        self.session.give_up();
         error
     }
 }

@@ -2,7 +2,7 @@
 //! What both sides do with a socket: they send and receive messages in parts, with descriptors; and they name errors as the crate
 //! does.
 use std::io;
-use std::os::unix::io::{AsRawFd, RawFd};
+use std::os::unix::io::RawFd;
 use std::os::unix::net::UnixStream;
 use std::result;
 use std::time::{Duration, Instant};
@@ -177,14 +177,6 @@ fn left_until(end: End) -> libc::c_int {
         let rounded = left.as_millis() + u128::from(left.subsec_nanos() % 1_000_000 != 0);
         rounded.try_into().unwrap_or(libc::c_int::MAX)
     })
-}
-
-/// Takes the descriptor of this number. One that is not among these would be another file of this program.
-pub(super) fn take_from(fds: &mut Vec<PeerFd>, fd: RawFd) -> Result<PeerFd> {
-    match fds.iter().position(|it| it.as_raw_fd() == fd) {
-        Some(at) => Ok(fds.swap_remove(at)),
-        None => Err(Error::InvalidMessage),
-    }
 }
 
 /// Why a call of the socket failed, as the crate sorts the system's errors. What it would try again has ended a message here.
