@@ -227,6 +227,14 @@ fn a_connection_that_is_set_failed() {
     });
 }
 
+/// Serves a request by which the device panics.
+fn panics(handler: &mut BackendReqHandler<Mutex<Noting>>) {
+    std::panic::set_hook(Box::new(|_| {}));
+    let panicked = catch_unwind(AssertUnwindSafe(|| handler.handle_request()));
+    let _ = std::panic::take_hook();
+    assert!(panicked.is_err());
+}
+
 /// A device that panics has left a call that nobody replies to.
 #[test]
 fn a_device_that_panics() {
@@ -236,12 +244,45 @@ fn a_device_that_panics() {
         agree_by_hand(&device, &mut handler, &peer, ALL);
         // (there is no file to give)
         peer.say(&message(41, ASKS, &[0x10; 16]), &[]);
-        std::panic::set_hook(Box::new(|_| {}));
-        let panicked = catch_unwind(AssertUnwindSafe(|| handler.handle_request()));
-        let _ = std::panic::take_hook();
-        assert!(panicked.is_err());
+        panics(&mut handler);
         peer.say(&message(3, ASKS, &[]), &[]);
         fails(PANICKED, handler.handle_request());
+    });
+}
+
+/// The descriptors of a call amid which the device panics: what the device was given is closed with that, and the others with the connection.
+#[test]
+fn a_device_that_panics_with_descriptors() {
+    let region = [1u64 << 20, 0x1000, 1 << 20, 0].iter().flat_map(|it| it.to_le_bytes());
+    let region: Vec<u8> = [0; 8].into_iter().chain(region).collect();
+    let table: Vec<u8> =
+        (0..8u64).flat_map(|at| [(at + 1) << 20, 0x1000, (at + 1) << 20, 0]).flat_map(u64::to_le_bytes).collect();
+    let table = [&8u64.to_le_bytes()[..], &table].concat();
+    counted(|| {
+        let file = memory_file();
+        for (count, request, kept) in [
+            (8, message(5, ASKS, &table), 0),
+            (1, message(37, ASKS, &region), 0),
+            // (what comes with it is of no use)
+            (1, message(38, ASKS, &region), 1),
+        ] {
+            let device = Shared::default();
+            let (mut handler, peer) = handled(&device);
+            agree_by_hand(&device, &mut handler, &peer, ALL);
+            let (mut first, asking) = handled(&device);
+            agree_by_hand(&device, &mut first, &asking, ALL);
+            asking.say(&message(41, ASKS, &[0x10; 16]), &[]);
+            panics(&mut first);
+            // (its lock is poisoned, so each call panics from now on)
+            let before = open_fds();
+            peer.say(&request, &vec![&file; count]);
+            panics(&mut handler);
+            assert_eq!(before + kept, open_fds(), "{request:02x?}");
+            fails(PANICKED, handler.handle_request());
+            assert_eq!(before + kept, open_fds());
+            drop(handler);
+            assert_eq!(before - 1, open_fds());
+        }
     });
 }
 
