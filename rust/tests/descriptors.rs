@@ -4,6 +4,7 @@ mod common;
 
 use std::fs::File;
 use std::io::{Read, Write};
+use std::net::Shutdown;
 use std::os::unix::io::{AsRawFd, OwnedFd};
 use std::os::unix::net::UnixStream;
 
@@ -100,6 +101,24 @@ fn a_file_that_comes_is_the_callers() {
             assert_eq!(b"shared", &bytes);
             // SAFETY: it asks for the flags of a descriptor.
             assert_eq!(libc::FD_CLOEXEC, unsafe { libc::fcntl(first.as_raw_fd(), libc::F_GETFD) });
+        });
+    });
+}
+
+/// What came with a part of a reply is closed once its rest can't come, though the connection is there still.
+#[test]
+fn a_reply_that_ends_amid_leaves_none_open() {
+    counted(|| {
+        let (given, other) = UnixStream::pair().unwrap();
+        let backend = |peer: &Peer| {
+            peer.hear_any();
+            peer.say(&message(31, REPLIES, &[1; 24])[..20], &[&File::from(OwnedFd::from(given))]);
+            peer.socket.shutdown(Shutdown::Write).unwrap();
+        };
+        negotiated(ALL, backend, |frontend| {
+            failed("PartialMessage", frontend.get_inflight_fd(&VhostUserInflight::default()));
+            assert!(is_left(&other));
+            failed("SocketBroken(32)", frontend.get_inflight_fd(&VhostUserInflight::default()));
         });
     });
 }

@@ -361,15 +361,17 @@ fn threads_that_share_a_device() {
     });
 }
 
-/// The rest of a message that was read in part is nobody's: the connection ends.
+/// The rest of a message that was read in part is nobody's: the connection ends, and what came with it is closed.
 #[test]
 fn an_end_amid_a_request() {
     counted(|| {
         let device = Shared::default();
         let (mut handler, peer) = handled(&device);
-        peer.say(&message(2, ASKS, &[0; 8])[..15], &[]);
+        let before = open_fds();
+        peer.say(&message(2, ASKS, &[0; 8])[..15], &[&memory_file(), &memory_file()]);
         peer.socket.shutdown(Shutdown::Write).unwrap();
         fails("InvalidMessage", handler.handle_request());
+        assert_eq!(before, open_fds());
         fails("SocketBroken(71)", handler.handle_request());
         drop(handler);
         assert_eq!(0, (&peer.socket).read(&mut [0]).unwrap());
