@@ -34,9 +34,12 @@ impl Device for Entropy {
 }
 
 fn main() -> ExitCode {
-    let Some(path) = args_os().nth(1) else {
-        eprintln!("usage: entropy PATH");
-        return ExitCode::from(1);
+    let path = match args_os().nth(1) {
+        Some(path) => path,
+        None => {
+            eprintln!("usage: entropy PATH");
+            return ExitCode::from(1);
+        }
     };
     match File::open("/dev/urandom").and_then(|source| run(&path, Entropy(source))) {
         Ok(()) => ExitCode::SUCCESS,
