@@ -62,11 +62,11 @@ first-fds hs [] rest some fds = absurd (omega (arith, some))
 first-fds hs (b ∷ bs) rest some fds = fds.0
 
 -- their numbers name them again
-named-again : (hs : Handles) → All IsFd hs → map handle_in (map fd_in hs) ≡ map Some hs
+pub named-again : (hs : Handles) → All IsFd hs → map handle_in (map fd_in hs) ≡ map Some hs
 named-again [] fds = refl
 named-again (h ∷ hs) fds = ap (λ x. x ∷ map handle_in (map fd_in hs)) (All-head IsFd h hs fds) ∙ ap (λ xs. Some h ∷ xs) (named-again hs (All-tail IsFd h hs fds))
 
-same-handles : (hs ks : Handles) → map Some hs ≡ map Some ks → hs ≡ ks
+pub same-handles : (hs ks : Handles) → map Some hs ≡ map Some ks → hs ≡ ks
 same-handles [] [] is = refl
 same-handles [] (k ∷ ks) is = absurd (cc is)
 same-handles (h ∷ hs) [] is = absurd (cc is)
@@ -84,10 +84,10 @@ same-handles (h ∷ hs) (k ∷ ks) is = ap (λ x. x ∷ hs) one ∙ ap (λ xs. k
     one = let some : Some h ≡ Some k = ap first is in cc some
 
 -- there is one
-abbrev There : Option PlainHandle → Type 0
+abbrev pub There : Option PlainHandle → Type 0
 There x = is_some x ≡ true
 
-all-there : (hs : Handles) → All There (map Some hs)
+pub all-there : (hs : Handles) → All There (map Some hs)
 all-there [] = All-nil There
 all-there (h ∷ hs) = All-cons There (Some h) (map Some hs) refl (all-there hs)
 

@@ -1,5 +1,5 @@
 -- A session that judges: which answer it takes, and how far it is in a run.
-use Rattle.std.proofs.Common.{◌≡◌, ℕ, ◌<◌, ◌≤◌, ◌+◌, suc, Bool, true, false, List, [], ◌∷◌, length, drop, get_or, drop-cons, Option, Ok, Err, refl, sym, ap, subst, ◌∙◌, arith}
+use Rattle.std.proofs.Common.{◌≡◌, ℕ, ℤ, ◌<◌, ◌≤◌, ◌+◌, suc, Bool, true, false, List, [], ◌∷◌, length, drop, get_or, drop-cons, Option, Ok, Err, refl, sym, ap, subst, ◌∙◌, arith}
 use Rattle.std.specs.Prelude.{◌==◌, is_some}
 use Rattle.std.proofs.lemmas.Bool.Decides.{nat_tests}
 use Rattle.std.proofs.lemmas.List.{drop_all}
@@ -21,8 +21,8 @@ use Rattle.vhost_c_backend.specs.declared.served.Served.{Served}
 use Rattle.vhost_protocol.specs.Handler.{Meets}
 use Rattle.vhost_frontend_core.specs.ValueHalves.{IsProper}
 use Rattle.vhost_c.specs.Device.{IsDue, IsMet, IsSized, opens, replies}
-use Rattle.vhost_c.specs.Joined.{AreAllowed, AreInStep}
-use Rattle.vhost_c.specs.Judged.{AreOfRun, AreSeen, FindsRight, Holds, HoldsConfig, IsJudged, IsReady, IsSeen, JudgesBy, ServesAs, Writes, kind_in}
+use Rattle.vhost_c.specs.Joined.{AreAllowed, AreInStep, HasFds}
+use Rattle.vhost_c.specs.Judged.{AreOfRun, AreSeen, FindsRight, Holds, HoldsBases, HoldsConfig, HoldsInflight, IsJudged, IsMessage, IsReady, IsSeen, JudgesBy, ServesAs, Writes, kind_in, told_area, told_bases}
 use Rattle.vhost_c.specs.declared.judged.Exchange.{Exchange}
 use Rattle.vhost_c.specs.declared.judged.Kind.{Kind}
 use Rattle.vhost_c.specs.declared.judged.Kind.TheVariants as kind
@@ -42,37 +42,52 @@ number-is m number old new due next =
     let same : b.message ≡ m = cc (ap (λ x. x.0) both) in
     b.is_number ∙ ap {A = Request} (λ k. asked_number (row (served.remembers old) k)) same
 
-pub held-as : (number n : ℕ) (k : Kind) (text : List ℕ) (r : Reply) → number ≡ n → k ≡ kind_in number → Holds k text r → Holds (kind_in n) text r
-held-as number n k text r is kind holds = subst (λ x. Holds x text r) (kind ∙ ap kind_in is) holds
+pub held-as : (number n : ℕ) (k : Kind) (text : List ℕ) (fds : List ℤ) (r : Reply) → number ≡ n → k ≡ kind_in number → Holds k text fds r → Holds (kind_in n) text fds r
+held-as number n k text fds r is kind holds = subst (λ x. Holds x text fds r) (kind ∙ ap kind_in is) holds
 
 -- each reply holds one
 config-held : (bytes : List ℕ) → (r : Reply) × HoldsConfig bytes r
 config-held [] = (reply.Refused, refl)
 config-held (b ∷ bytes) = (reply.Config (record { ref_ptr = (0, 0); now = b ∷ bytes }), (refl, omega arith))
 
-some-held : (k : Kind) (text : List ℕ) → (r : Reply) × Holds k text r
-some-held kind.Done text = (_, refl)
-some-held kind.Number text = (_, refl)
-some-held kind.Ring text = (_, refl)
-some-held kind.Config text = config-held (drop 24 text)
-some-held kind.Refused text = (_, refl)
+bases-held : (bases text : List ℕ) → (r : Reply) × HoldsBases bases text r
+bases-held [] text = (_, refl)
+bases-held (b ∷ bases) text = (reply.Bases (record { ref_ptr = (0, 0); now = b ∷ bases }), refl)
 
-pub any-held : (m : Request) (old : Served) (text : List ℕ) → (r : Reply) × Holds (kind_in (asked_number (row (served.remembers old) m))) text r
-any-held m old text = some-held (kind_in (asked_number (row (served.remembers old) m))) text
+inflight-held : (text : List ℕ) (fds : List ℤ) → (r : Reply) × HoldsInflight text fds r
+inflight-held text [] = (reply.Refused, tt)
+inflight-held text (fd ∷ fds) =
+    let area = told_area text in
+    (reply.Inflight (record { mmap_size = area.mmap_size; mmap_offset = area.mmap_offset; num_queues = area.num_queues; queue_size = area.queue_size }) fd, (refl, refl))
+
+some-held : (k : Kind) (text : List ℕ) (fds : List ℤ) → (r : Reply) × Holds k text fds r
+some-held kind.Done text fds = (_, refl)
+some-held kind.Number text fds = (_, refl)
+some-held kind.Ring text fds = (_, refl)
+some-held kind.Bases text fds = bases-held (told_bases text) text
+some-held kind.Config text fds = config-held (drop 24 text)
+some-held kind.Same text fds = (_, refl)
+some-held kind.Fd text fds = (_, refl)
+some-held kind.StateFd text fds = (_, refl)
+some-held kind.Inflight text fds = inflight-held text fds
+some-held kind.Refused text fds = (_, refl)
+
+pub any-held : (m : Request) (old : Served) (text : List ℕ) (fds : List ℤ) → (r : Reply) × Holds (kind_in (asked_number (row (served.remembers old) m))) text fds r
+any-held m old text fds = some-held (kind_in (asked_number (row (served.remembers old) m))) text fds
 
 -- ---- the verdict
 
-pub judged-so : (m : Request) (text : List ℕ) (old mid served' new : Served) (same : Bool) → served.remembers mid ≡ served.remembers old → ServesAs m text mid (Ok tt) served' → Writes text served' same new → IsJudged m text old same new
-judged-so m text old mid done new same memory s w =
+pub judged-so : (m : Request) (text : List ℕ) (fds : List ℤ) (old mid served' new : Served) (same : Bool) → served.remembers mid ≡ served.remembers old → ServesAs m text fds mid (Ok tt) served' → Writes text fds served' same new → IsJudged m text fds old same new
+judged-so m text fds old mid done new same memory s w =
     let met : IsMet m s.reply (served.remembers mid) done = s.serves in
     record {
       reply = s.reply;
-      holds = subst {A = Memory} (λ k. Holds (kind_in (asked_number (row k m))) text s.reply) memory s.holds;
+      holds = subst {A = Memory} (λ k. Holds (kind_in (asked_number (row k m))) text fds s.reply) memory s.holds;
       outcome = met.outcome;
       meets = subst {A = Memory} (λ k. Meets (replies s.reply) (opens s.reply) (opens s.reply) k tt m met.outcome tt) memory met.meets;
       memory = ap {A = Kept} (λ k. session_of k.2.session) w.hands.rest ∙ met.memory;
-      right = λ is. sym met.queue ∙ (w.right is).0;
-      differs = λ is cells. w.differs is (met.queue ∙ cells);
+      right = λ is. subst (λ cells. IsMessage text fds cells) met.queue (w.right is).0;
+      differs = λ is m. w.differs is (subst (λ cells. IsMessage text fds cells) (sym met.queue) m);
       ready = λ is alive. record {
         idle = ap {A = Kept} (λ k. is_some k.0) w.hands.rest ∙ met.idle;
         came = w.hands.came ∙ met.came;
@@ -83,9 +98,9 @@ judged-so m text old mid done new same memory s w =
       };
     }
 
-pub unserved-so : (m : Request) (text : List ℕ) (old mid served' new : Served) (h : Halt) → ServesAs m text mid (Err h) served' → JudgesBy m text old (Err h) new
-unserved-so m text old mid done new (halt.WantsMemory why) s = s.serves
-unserved-so m text old mid done new _ s = s.serves
+pub unserved-so : (m : Request) (text : List ℕ) (fds : List ℤ) (old mid served' new : Served) (h : Halt) → ServesAs m text fds mid (Err h) served' → JudgesBy m text fds old (Err h) new
+unserved-so m text fds old mid done new (halt.WantsMemory why) s = s.serves
+unserved-so m text fds old mid done new _ s = s.serves
 
 -- ---- how far it is
 
@@ -113,6 +128,7 @@ pub record IsNext (bit : Bool) (e : Exchange) (es : List Exchange) (f' : Session
   pub next : Served
   pub in_step : AreInStep bit front back
   pub proper : IsProper call
+  pub given : HasFds call
   pub sized : IsSized reply
   pub seen : IsSeen bit call reply e front back mid next
   pub ready : IsReady judge
@@ -133,6 +149,7 @@ next-is bit e es f' b' judge at = by at.steps at.allowed at.seen
       next = t;
       in_step = at.in_step;
       proper = one.proper;
+      given = allowed.1;
       sized = allowed.2;
       seen = one;
       ready = at.ready;
@@ -149,7 +166,7 @@ ends-right bit f' b' judge at = by at.steps at.seen
 
 -- no exchange
 abbrev pub nothing : Exchange
-nothing = record { request = record { ref_ptr = (0, 0); now = [] }; reply = record { ref_ptr = (0, 0); now = [] } }
+nothing = record { request = record { ref_ptr = (0, 0); now = [] }; request_fds = record { ref_ptr = (0, 0); now = [] }; reply = record { ref_ptr = (0, 0); now = [] }; reply_fds = record { ref_ptr = (0, 0); now = [] } }
 
 dropped : (es : List Exchange) (i : ℕ) → i < length es → drop i es ≡ get_or es i nothing ∷ drop (i + 1) es
 dropped es i within = let next : suc i ≡ i + 1 = omega arith in drop-cons es i nothing within ∙ ap (λ n. get_or es i nothing ∷ drop n es) next

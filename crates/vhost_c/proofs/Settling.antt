@@ -8,6 +8,8 @@ use Rattle.vhost_message.specs.declared.frontend_req.FrontendReq.{FrontendReq}
 use Rattle.vhost_message.specs.declared.frontend_req.FrontendReq.TheVariants.{POSTCOPY_LISTEN, POSTCOPY_END, GET_INFLIGHT_FD}
 use Rattle.vhost_message.specs.declared.postcopy.PostcopyState.TheVariants.{Listen, End}
 use Rattle.vhost_message.specs.declared.records.vring.VhostUserVringState.{VhostUserVringState}
+use Rattle.vhost_message.specs.declared.records.inflight.VhostUserInflight.{VhostUserInflight}
+use Rattle.vhost_message.specs.RecordLaws.{InflightFits, inflight-reads_back}
 use Rattle.vhost_message.specs.Text.{digits}
 use Rattle.vhost_protocol.specs.Answered.{if_agreed}
 use Rattle.vhost_protocol.specs.Error.{Error}
@@ -17,10 +19,10 @@ use Rattle.vhost_protocol.specs.Session.{Session, ack_on}
 use Rattle.vhost_protocol.specs.Settled.{ended, has_reply, is_listening, is_unanswered, refused_reply, settled, silenced, spoken}
 use Rattle.vhost_protocol.specs.Split.{Message}
 use Rattle.vhost_protocol.specs.Step.{Outcome, done, replied, unwritten, with_ack}
-use Rattle.vhost_protocol.specs.Written.{Payload, U64, RingState}
+use Rattle.vhost_protocol.specs.Written.{Payload, InflightArea, U64, RingState}
 use Rattle.vhost_link.specs.declared.plain.PlainHandle.{PlainHandle}
-use Rattle.vhost_c.specs.Judged.{told_number, told_word}
-use Rattle.vhost_c.proofs.Replying.{text_in}
+use Rattle.vhost_c.specs.Judged.{told_area, told_number, told_word}
+use Rattle.vhost_c.proofs.Replying.{handles_in, text_in}
 
 abbrev pub Out : Type 0
 Out = Outcome PlainHandle
@@ -208,6 +210,9 @@ module _ (s : Session) (standard : is_standard s.profile ≡ true) where
     abbrev pub lacks : Error → Out
     lacks e = settled s (asking GET_INFLIGHT_FD need body) (record { answer = Err e; served = Silent; session = s })
 
+    pub lacks-bare : (e : Error) → handles_in (lacks e).served ≡ []
+    lacks-bare e = ap (λ (o : Out). handles_in o.served) (quiet-as GET_INFLIGHT_FD need body s true false (Err e) refl refl)
+
     pub lacks-same : (d e : Error) → Same (lacks d) (lacks e)
     lacks-same d e = subst (λ o. Same o (lacks e)) (sym (quiet-as GET_INFLIGHT_FD need body s true false (Err d) refl refl)) (subst (λ o. Same (quiet_shape GET_INFLIGHT_FD need body s true true false acks (Err d)) o) (sym (quiet-as GET_INFLIGHT_FD need body s true false (Err e) refl refl)) (record { served = refl; session = refl }))
 
@@ -222,6 +227,9 @@ acked-number r false = refl
 
 pub number-back : (r : FrontendReq) (n : ℕ) → n < 2 ^ 64 → told_number (text_in r (Replied (U64 n) [])) ≡ n
 number-back r n small = little_number-reads_back 8 n [] small
+
+pub area-back : (r : FrontendReq) (area : VhostUserInflight) (hs : List PlainHandle) → InflightFits area → told_area (text_in r (Replied (InflightArea area) hs)) ≡ area
+area-back r area hs fits = inflight-reads_back area fits
 
 pub or-again : (n m : ℕ) → bit_or (bit_or n m) m ≡ bit_or n m
 or-again n m = let e = or_add_and (bit_or n m) m in let f = and_or_self m n in omega (arith, e, f)

@@ -9,19 +9,19 @@ exchanges-init c = record { right = λ bit steps f f' b b' run ready memory. sta
 pub returns-in-Ok-false : goal.returns-in-Ok-false
 returns-in-Ok-false c bit steps f f' b b' run ready memory =
     let n = next-of bit c.args.exchanges.now c.exchanges.i c.exchanges-test.true f' b' c.exchanges.judge (c.exchanges.invariant.right bit steps f f' b b' run ready memory) in
-    let found = c.in-Ok-false.ensures bit n.call n.reply n.front n.mid n.back n.next n.in_step n.proper n.sized n.seen n.ready n.memory in
+    let found = c.in-Ok-false.ensures bit n.call n.reply n.front n.mid n.back n.next n.in_step n.proper n.given n.sized n.seen n.ready n.memory in
     absurd (cc found.0)
 
 pub returns-in-Err : goal.returns-in-Err
 returns-in-Err c bit steps f f' b b' run ready memory =
     let n = next-of bit c.args.exchanges.now c.exchanges.i c.exchanges-test.true f' b' c.exchanges.judge (c.exchanges.invariant.right bit steps f f' b b' run ready memory) in
-    same-halt n.next b' c.judged_one.new.judge c.in-Err.halt (c.in-Err.ensures bit n.call n.reply n.front n.mid n.back n.next n.in_step n.proper n.sized n.seen n.ready n.memory)
+    same-halt n.next b' c.judged_one.new.judge c.in-Err.halt (c.in-Err.ensures bit n.call n.reply n.front n.mid n.back n.next n.in_step n.proper n.given n.sized n.seen n.ready n.memory)
 
 pub exchanges-preserved : goal.exchanges-preserved
 exchanges-preserved c = record {
   right = λ bit steps f f' b b' run ready memory.
       let n = next-of bit c.args.exchanges.now c.exchanges.i c.exchanges-test.true f' b' c.exchanges.judge (c.exchanges.invariant.right bit steps f f' b b' run ready memory) in
-      let found = c.in-Ok-true.ensures bit n.call n.reply n.front n.mid n.back n.next n.in_step n.proper n.sized n.seen n.ready n.memory in
+      let found = c.in-Ok-true.ensures bit n.call n.reply n.front n.mid n.back n.next n.in_step n.proper n.given n.sized n.seen n.ready n.memory in
       n.later c.judged_one.new.judge found.2 found.1;
 }
 

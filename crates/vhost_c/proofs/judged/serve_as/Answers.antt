@@ -14,13 +14,13 @@ returns-in-Ok c m due =
     let o = opened m _ c.args.judge.now c.next.new.self due c.in-Ok.ensures in
     record {
       reply = c.held.result;
-      holds = held-as _ _ _ c.args.reply.now c.held.result (number-is m _ c.args.judge.now c.next.new.self due c.in-Ok.ensures) c.kind_of.ensures c.held.ensures;
+      holds = held-as _ _ _ c.args.reply.now c.args.fds.now c.held.result (number-is m _ c.args.judge.now c.next.new.self due c.in-Ok.ensures) c.kind_of.ensures c.held.ensures;
       serves = subst {A = Session} (λ k. Serves m c.held.result k c.answer.result c.answer.new.back) o.1 (c.answer.ensures m o.0);
     }
 
 pub returns-in-Err : goal.returns-in-Err
 returns-in-Err c m due =
-    let held = any-held m c.args.judge.now c.args.reply.now in
+    let held = any-held m c.args.judge.now c.args.reply.now c.args.fds.now in
     record {
       reply = held.0;
       holds = held.1;
