@@ -1,6 +1,6 @@
 -- What a call becomes by an answer, it becomes by the answer that its reply holds.
 use Rattle.std.proofs.Common.{◌≡◌, ◌⊎◌, inl, inr, ℕ, ◌<◌, ◌≤◌, ◌^◌, Bool, true, false, List, [], ◌∷◌, length, Option, Some, None, Result, Ok, Err, refl, sym, ap, subst, ◌∙◌, arith}
-use Rattle.std.specs.Prelude.{⊤, All, map, ◌==◌, ◌&&◌, not, is_ok, is_some, if◌then◌else◌}
+use Rattle.std.specs.Prelude.{⊤, All, map, ◌==◌, ◌&&◌, is_ok, is_some, if◌then◌else◌}
 use Rattle.std.proofs.lemmas.Bool.{eqb-true, eq-eqb}
 use Rattle.std.proofs.lemmas.List.Elements.{All-head}
 use Rattle.vhost_message.specs.declared.frontend_req.FrontendReq.{FrontendReq}
@@ -13,12 +13,12 @@ use Rattle.vhost_protocol.specs.DeviceCall as device
 use Rattle.vhost_protocol.specs.Error.{BackendInternalError, Error, test}
 use Rattle.vhost_protocol.specs.Profile.{is_standard}
 use Rattle.vhost_protocol.specs.Handler.{Follows}
-use Rattle.vhost_protocol.specs.Row.{channel, only}
+use Rattle.vhost_protocol.specs.Row.{channel}
 use Rattle.vhost_protocol.specs.Split.{Message}
 use Rattle.vhost_protocol.specs.Served.{Silent, Replied}
 use Rattle.vhost_protocol.specs.Session.{Session, ack_on}
 use Rattle.vhost_protocol.specs.Settled.{ended, has_reply, is_listening, refused_reply, settled}
-use Rattle.vhost_protocol.specs.Step.{Refusal, Step, Refused, Calls, OpensBackend, OpensGpu, ◌>>=◌, ◌>>◌, acknowledged, replied, replied_or_silent, unwritten, with_ack}
+use Rattle.vhost_protocol.specs.Step.{Refusal, Step, Refused, Calls, OpensBackend, OpensGpu, ◌>>=◌, ◌>>◌, replied, replied_or_silent, unwritten, with_ack}
 use Rattle.vhost_protocol.specs.Written.{Payload, Empty, U64, RingState, ConfigBytes}
 use Rattle.vhost_link.specs.declared.plain.PlainHandle.{PlainHandle}
 use Rattle.vhost_serving_core.specs.Concluding.{Beside, answer_in, bytes_in, done_in, handle_in, number_in, ring_state_in, shmem_in, state_handle_in}

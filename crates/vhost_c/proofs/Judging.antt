@@ -44,7 +44,7 @@ use Rattle.vhost_c.proofs.Replying.{handles_in, text_in}
 use Rattle.vhost_c.proofs.Settling as settling
 use Rattle.vhost_c.proofs.Settling.{Out, Same, asking, acked, never-acked, replied-is, ends-is, lacks-bare, lacks-same, area-back, or-again}
 use Rattle.vhost_c.proofs.Becoming.{Row, Well, acks, acks-unmapped, backend, became, both-are, bringing, checks, config, gpu, handle, listening, numbers, quiets, repeated, ring, shmem, state, unserved, well-bind, well-cond, well-test, well-then}
-use Rattle.vhost_c.proofs.Said.{Said, said-refused, some-area, said-area, no-area, table-decides, region-decides, agreed, some-bases, said-bases, some-base, said-base}
+use Rattle.vhost_c.proofs.Said.{Said, said-refused, some-area, said-area, no-area, table-decides, region-decides, some-bases, said-bases, some-base, said-base}
 
 and-left : (a b : Bool) → (a && b) ≡ true → a ≡ true
 and-left true b is = refl
