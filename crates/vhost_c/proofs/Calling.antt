@@ -1,9 +1,13 @@
 -- What calls of a program have in common, whichever session they are of.
-use Rattle.std.proofs.Common.{◌≡◌, ℕ, suc, true, List, [], ◌∷◌, ◌++◌, length, append_assoc, Option, Some, None, refl, sym, ap, subst, ◌∙◌}
-use Rattle.std.specs.Prelude.{All}
+use Rattle.std.proofs.Common.{◌≡◌, ℕ, suc, Bool, true, List, [], ◌∷◌, ◌++◌, length, append_assoc, Option, Some, None, Result, Ok, Err, refl, sym, ap, subst, ◌∙◌}
+use Rattle.std.specs.Prelude.{All, ⊤, ◌≢◌}
 use Rattle.std.proofs.lemmas.List.{append-nil}
 use Rattle.std.proofs.lemmas.List.Elements.{All-head, All-tail}
-use Rattle.vhost_c.specs.Calls.{Runs, Appends, IsMade, over, goes_on}
+use Rattle.vhost_c_common.specs.ByNumber.{By}
+use Rattle.vhost_c_common.specs.ByNumber as by
+use Rattle.vhost_c_common.specs.Number.{number}
+use Rattle.vhost_c_common.specs.declared.refusal.Refusal.{Refusal}
+use Rattle.vhost_c.specs.Calls.{Runs, Appends, IsMade, over, goes_on, is_named}
 use Rattle.vhost_c.specs.declared.places.ProgramAnswer.{ProgramAnswer}
 
 -- ---- calls one after another
@@ -59,3 +63,29 @@ module _ {Call S : Type 0} (Does IsCalled : Call → ProgramAnswer → Option S 
 
   pub appends-called : {cs : List Call} {before after : List ProgramAnswer} {old new : Option S} → Appends Does cs before after old new → IsMade Does old → Appends IsCalled cs before after old new
   appends-called a made = record { answers = a.answers; appended = a.appended; runs = (called a.runs (made-good made)).0 }
+
+-- ---- what a call promises
+
+-- What a call promises of a session that calls made, beside what it does, by its number.
+pub record Promises {Call S : Type 0} (refusals : Call → List ℕ) (Leaves : Call → ℕ → Option S → Option S → Type 0) (is_harmless : ℕ → Bool) (IsSound Good : Option S → Type 0) (call : Call) (n : ℕ) (old new : Option S) : Type 0 where
+  pub named : is_named (refusals call) n ≡ true
+  pub leaves : n ≢ 0 → Leaves call n old new
+  pub sound : is_harmless n ≡ true → IsSound old → IsSound new
+  pub good : Good new
+
+module _ {Call S : Type 0} {refusals : Call → List ℕ} {Leaves : Call → ℕ → Option S → Option S → Type 0} {is_harmless : ℕ → Bool} {IsSound Good : Option S → Type 0} where
+  pub promised : (call : Call) (n m : ℕ) (old new : Option S) → n ≡ m → Promises refusals Leaves is_harmless IsSound Good call m old new → Promises refusals Leaves is_harmless IsSound Good call n old new
+  promised call n m old new is p = subst (λ k. Promises refusals Leaves is_harmless IsSound Good call k old new) (sym is) p
+
+  -- where nothing changed
+  pub kept : (call : Call) (n : ℕ) {old new : Option S} → is_named (refusals call) n ≡ true → (new ≡ old → Leaves call n old new) → new ≡ old → Good old → Promises refusals Leaves is_harmless IsSound Good call n old new
+  kept call n named leaves same good = record { named = named; leaves = λ refused. leaves same; sound = λ harmless was. subst IsSound (sym same) was; good = subst Good (sym same) good }
+
+-- ---- calls on descriptors
+
+-- What a call promises: it does where there is no session, where it is done, and where it is refused.
+pub on-held : {S : Type 0} (Good : Option S → Type 0) (Promised : ℕ → Option S → Option S → Type 0) (does : S → Result ⊤ Refusal → S → Type 0) → Promised 101 None None → ((s t : S) (u : ⊤) → does s (Ok u) t → Good (Some s) → Promised 0 (Some s) (Some t))
+    → ((s t : S) (r : Refusal) → does s (Err r) t → Good (Some s) → Promised (number r) (Some s) (Some t)) → {n : ℕ} {old new : Option S} → By does old n new → Good old → Promised n old new
+on-held Good Promised does gone done refused by.none good = gone
+on-held Good Promised does gone done refused (by.some {s = s} {s' = t} {outcome = Ok u} x) good = done s t u x good
+on-held Good Promised does gone done refused (by.some {s = s} {s' = t} {outcome = Err r} x) good = refused s t r x good

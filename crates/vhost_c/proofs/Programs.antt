@@ -32,16 +32,17 @@ use Rattle.vhost_c_common.specs.declared.refusal.Refusal.{Refusal}
 use Rattle.vhost_c_common.specs.declared.refusal.Refusal.TheVariants as refusal
 use Rattle.vhost_c_common.proofs.Wants.{lasts}
 use Rattle.vhost_c.specs.Answers.{Reads, number_of, bases_of, config_of, fd_of, inflight_of, shmem_of}
-use Rattle.vhost_c.specs.Session.{Reading, Opens, opened, was_open, no_room, ChoosesBy, Choosing, Asking, Asks, sent, at_once, Fails, refused, no_queue, no_list, no_answer, no_request, was_broken, Refused, busy, fails, KeepsAll, Stays, Rejecting, Sending, Receiving, Takes, kept, failed, other_size, nothing_asked, not_yet, remembers, missing_of}
+use Rattle.vhost_c.specs.Session.{Abandoning, Claiming, LettingGo, Reading, Opens, opened, was_open, no_room, ChoosesBy, Choosing, Asking, Asks, sent, at_once, Fails, refused, no_queue, no_list, no_answer, no_request, was_broken, Refused, busy, fails, KeepsAll, Stays, Rejecting, Sending, Receiving, Takes, kept, failed, other_size, nothing_asked, not_yet, remembers, missing_of}
 use Rattle.vhost_c.specs.declared.session.Session.{Session}
 use Rattle.vhost_c.specs.Calls.{Runs, over, goes_on, AtBoth, none, some, is_named}
 use Rattle.vhost_c.specs.Program.{ReadsTo, Does, IsCalled, IsAlike, is_early, LeavesTaken, Leaves, IsSound, is_harmless, ends_none, refusals}
 use Rattle.vhost_c.specs.declared.places.Places.{Places}
 use Rattle.vhost_c.specs.declared.places.ProgramAnswer.{ProgramAnswer}
 use Rattle.vhost_c.specs.declared.program.ProgramCall.{ProgramCall}
-use Rattle.vhost_c.specs.declared.program.ProgramCall.TheVariants.{Open, SetProfile, Ask, AskInvalid, AskWithoutMemory, ToSend, Receive, Take, Read, Close}
+use Rattle.vhost_c.specs.declared.program.ProgramCall.TheVariants.{Open, SetProfile, Ask, AskInvalid, AskWithoutMemory, ToSend, Receive, Take, Read, Claim, Unclaimed, Abandon, Close}
 use Rattle.vhost_c.specs.declared.program.ProgramRead.{ProgramRead}
 use Rattle.vhost_c.specs.declared.program.ProgramRead.TheVariants.{Missing, Inactive, Number, Bases, Config, Fd, Inflight, Shmem}
+use Rattle.vhost_c.proofs.Calling.{on-held}
 use Rattle.vhost_c.proofs.AskRefusals.{seen_number, is-seen, ask-refused}
 use Rattle.vhost_c.proofs.TakeRefusals.{take-refused}
 
@@ -289,6 +290,16 @@ reads-to Fd p q n old new does = reads (Read Fd p) _ refl refl (λ x r. not-read
 reads-to Inflight p q n old new does = reads (Read Inflight p) _ refl refl (λ x r. not-read (Read Inflight p) _ (λ b. ⊥) (inflight_of x) refl (λ b never. absurd never) r) (λ n o o' same. same) does
 reads-to Shmem p q n old new does = reads (Read Shmem p) _ refl refl (λ x r. not-read (Read Shmem p) _ _ (shmem_of x) refl (λ c lacks. refl) r) (λ n o o' same. same) does
 
+-- ---- descriptors
+
+-- nothing changed but which are held
+holds : (call : ProgramCall) (s t : Session) → t ≡ record s { held = t.held } → Promises call 0 (Some s) (Some t)
+holds call s t same = record { named = refl; leaves = λ refused. absurd (refused refl); sound = λ harmless was. ap {A = Session} (λ x. (endpoint_of x.frontend).broken) same ∙ was }
+
+not-claimed : (fd : ℤ) (s t : Session) (r : Refusal) → Claiming fd s (Err r) t → Promises (Claim fd) (number r) (Some s) (Some t)
+not-claimed fd s t refusal.OtherAnswer x = record { named = refl; leaves = λ refused. ap Some x.1; sound = λ harmless was. ap {A = Session} (λ y. (endpoint_of y.frontend).broken) x.1 ∙ was }
+not-claimed fd s t _ x = absurd x
+
 -- ---- all calls
 
 promises : (call : ProgramCall) (a : ProgramAnswer) (old new : Option Session) → Does call a old new → Promises call a.number old new
@@ -297,10 +308,13 @@ promises (SetProfile p) a old new does = chooses p (profile_at p) a.number old n
 promises (Ask call) a old new does = asks call does
 promises AskInvalid a old new does = rejects AskInvalid code.InvalidParam refl refl (λ n o o' both. both) does
 promises AskWithoutMemory a old new does = rejects AskWithoutMemory code.OutOfMemory refl refl (λ n o o' both. both) does
-promises (ToSend p) a old new does = sends p a.places.bytes.items a.places.fds.items (a.places.byte_count, a.places.fd_count) does
-promises (Receive bytes fds) a old new does = receives bytes fds bytes.items fds.items does
-promises Take a old new does = taken does
+promises (ToSend p) a old new does = sends p a.places.bytes.items a.places.fds.items (a.places.byte_count, a.places.fd_count) does.0
+promises (Receive bytes fds) a old new does = receives bytes fds bytes.items fds.items does.0
+promises Take a old new does = taken does.0
 promises (Read what p) a old new does = reads-to what p a.places a.number old new does
+promises (Claim fd) a old new does = on-held (λ _. ⊤) (Promises (Claim fd)) (Claiming fd) (absent (Claim fd) refl refl) (λ s t u x any. holds (Claim fd) s t x.2) (λ s t r x any. not-claimed fd s t r x) does tt
+promises (Unclaimed p) a old new does = on-held (λ _. ⊤) (Promises (Unclaimed p)) (LettingGo p.fds.items a.places.count a.places.fds.items) (absent (Unclaimed p) refl refl) (λ s t u x any. holds (Unclaimed p) s t x.1) (λ s t r x any. absurd x) does tt
+promises Abandon a old new does = on-held (λ _. ⊤) (Promises Abandon) Abandoning (absent Abandon refl refl) (λ s t u x any. holds Abandon s t x.1) (λ s t r x any. absurd x) does tt
 promises Close a old new (is, gone) = promised Close a.number 0 old new is (record { named = refl; leaves = λ refused. absurd (refused refl); sound = λ harmless was. subst IsSound (sym gone) tt })
 
 pub calls : {call : ProgramCall} {a : ProgramAnswer} {old new : Option Session} → Does call a old new → IsCalled call a old new
@@ -344,9 +358,7 @@ left (ToSend p) n ends l = seen-alike l
 left (Receive bytes fds) n ends l = seen-alike l
 left Take n ends l = absurd cc
 left Close n ends l = absurd cc
-left (Open m) n ends l = as-was l
-left (SetProfile p) n ends l = as-was l
-left (Read what p) n ends l = as-was l
+left _ n ends l = as-was l
 
 -- calls that are refused, none of which takes or closes, leave a session
 pub in-vain : {cs : List ProgramCall} {as' : List ProgramAnswer} {old new : Option Session} → Runs IsCalled cs as' old new → All (λ (c : ProgramCall). ends_none c ≡ true) cs → All (λ (a : ProgramAnswer). a.number ≢ 0) as' → AtBoth Stays old new

@@ -9,11 +9,11 @@ use Rattle.vhost_c_common.specs.Profile.{profile_at}
 use Rattle.vhost_c_common.specs.declared.refusal.Refusal.TheVariants.{NoSession, SessionOpen, NotTaken, NothingAsked, NotYet, TooManyBytes, NoRoom, OtherAnswer}
 use Rattle.vhost_c.specs.Answers.{ReadsNumber, ReadsBases, ReadsConfig, ReadsFd, ReadsInflight, ReadsShmem}
 use Rattle.vhost_c.specs.Calls.{AtBoth, inactive_feature, inactive_operation, is_named, socket_broken, socket_retry}
-use Rattle.vhost_c.specs.Session.{Opens, ChoosesBy, AsksBy, RejectsBy, Sending, Receiving, Takes, Reading, Stays, missing_at, inactive_at, view}
+use Rattle.vhost_c.specs.Session.{Abandoning, Claiming, Getting, LettingGo, Opens, ChoosesBy, AsksBy, RejectsBy, Sending, Receiving, Takes, TakesHeld, Reading, Stays, missing_at, inactive_at, view}
 use Rattle.vhost_c.specs.declared.places.Places.{Places}
 use Rattle.vhost_c.specs.declared.places.ProgramAnswer.{ProgramAnswer}
 use Rattle.vhost_c.specs.declared.program.ProgramCall.{ProgramCall}
-use Rattle.vhost_c.specs.declared.program.ProgramCall.TheVariants.{Open, SetProfile, Ask, AskInvalid, AskWithoutMemory, ToSend, Receive, Take, Read, Close}
+use Rattle.vhost_c.specs.declared.program.ProgramCall.TheVariants.{Open, SetProfile, Ask, AskInvalid, AskWithoutMemory, ToSend, Receive, Take, Read, Claim, Unclaimed, Abandon, Close}
 use Rattle.vhost_c.specs.declared.program.ProgramRead.{ProgramRead}
 use Rattle.vhost_c.specs.declared.program.ProgramRead.TheVariants.{Missing, Inactive, Number, Bases, Config, Fd, Inflight, Shmem}
 use Rattle.vhost_c.specs.declared.session.Session.{Session}
@@ -36,10 +36,13 @@ Does (SetProfile profile) a old new = ChoosesBy (profile_at profile) old a.numbe
 Does (Ask call) a old new = AsksBy (call_of call) old a.number new
 Does AskInvalid a old new = RejectsBy InvalidParam old a.number new
 Does AskWithoutMemory a old new = RejectsBy OutOfMemory old a.number new
-Does (ToSend p) a old new = By (Sending a.places.bytes.items a.places.fds.items (a.places.byte_count, a.places.fd_count)) old a.number new
-Does (Receive bytes fds) a old new = By (Receiving bytes.items fds.items) old a.number new
-Does Take a old new = By (λ s o s'. Takes s s' o) old a.number new
+Does (ToSend p) a old new = By (Sending a.places.bytes.items a.places.fds.items (a.places.byte_count, a.places.fd_count)) old a.number new × By (λ s o s'. s'.held ≡ s.held) old a.number new
+Does (Receive bytes fds) a old new = By (Receiving bytes.items fds.items) old a.number new × By (Getting fds.items) old a.number new
+Does Take a old new = By (λ s o s'. Takes s s' o) old a.number new × By (λ s o s'. TakesHeld s.held o s'.held) old a.number new
 Does (Read what p) a old new = ReadsTo what p a.places old a.number new
+Does (Claim fd) a old new = By (Claiming fd) old a.number new
+Does (Unclaimed p) a old new = By (LettingGo p.fds.items a.places.count a.places.fds.items) old a.number new
+Does Abandon a old new = By Abandoning old a.number new
 Does Close a old new = (a.number ≡ 0) × (new ≡ None)
 
 -- ---- what a call may answer
@@ -67,6 +70,9 @@ refusals (Receive bytes fds) = number NoSession ∷ number TooManyBytes ∷ erro
 refusals Take = number NoSession ∷ number NothingAsked ∷ number NotYet ∷ error_number BackendInternalError ∷ error_number IncorrectFds ∷ error_number InvalidMessage ∷ error_number InvalidParam ∷ error_number PartialMessage
     ∷ error_number OutOfMemory ∷ socket_retry ∷ socket_broken ∷ []
 refusals (Read what p) = read_refusals what
+refusals (Claim fd) = number NoSession ∷ number OtherAnswer ∷ []
+refusals (Unclaimed p) = number NoSession ∷ []
+refusals Abandon = number NoSession ∷ []
 refusals Close = []
 
 -- ---- what a refusal leaves

@@ -284,27 +284,18 @@ Reading reads s outcome s' = reads s.answer outcome × (s' ≡ s)
 
 -- ---- descriptors
 
--- Nothing changed but which are held.
-pub record KeepsRest (old new : Session) : Type 0 where
-  pub frontend : new.frontend ≡ old.frontend
-  pub outgoing : new.outgoing ≡ old.outgoing
-  pub asked : new.asked ≡ old.asked
-  pub incoming : new.incoming ≡ old.incoming
-  pub answer : new.answer ≡ old.answer
-  pub inactive : new.inactive ≡ old.inactive
-
 -- what a session answers to a claim of a descriptor: it came with the answer that was decoded last, and is the caller's now; or an answer is still to be decoded, or it has none of that number that was not claimed
 abbrev pub Claiming : ℤ → Session → Result ⊤ Refusal → Session → Type 0
-Claiming fd s (Ok done) s' = (is_some s.asked ≡ false) × Claimed fd s.held s'.held × KeepsRest s s'
-Claiming fd s (Err OtherAnswer) s' = (is_some s.asked ≡ false → ¬ (Contains (claimable s.held) fd)) × (s'.held ≡ s.held) × KeepsRest s s'
+Claiming fd s (Ok done) s' = (is_some s.asked ≡ false) × Claimed fd s.held s'.held × (s' ≡ record s { held = s'.held })
+Claiming fd s (Err OtherAnswer) s' = (is_some s.asked ≡ false → ¬ (Contains (claimable s.held) fd)) × (s' ≡ s)
 Claiming fd s _ s' = ⊥
 
 -- what a call of C does that hands out descriptors that nobody will claim
 abbrev pub LettingGo : List ℤ → ℕ → List ℤ → Session → Result ⊤ Refusal → Session → Type 0
-LettingGo before count after s (Ok done) s' = HandsLoose s.held before count after s'.held × KeepsRest s s'
+LettingGo before count after s (Ok done) s' = HandsLoose s.held before count after s'.held × (s' ≡ record s { held = s'.held })
 LettingGo before count after s (Err r) s' = ⊥
 
 -- what a call of C does after which nobody will claim what came
 abbrev pub Abandoning : Session → Result ⊤ Refusal → Session → Type 0
-Abandoning s (Ok done) s' = Released s.held s'.held × KeepsRest s s'
+Abandoning s (Ok done) s' = Released s.held s'.held × (s' ≡ record s { held = s'.held })
 Abandoning s (Err r) s' = ⊥

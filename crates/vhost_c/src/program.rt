@@ -4,13 +4,14 @@ ghost use Rattle.std.specs.Prelude.{◌≡◌, ◌≢◌, ◌<◌, ◌+◌, true
 ghost use Rattle.vhost_c_common.specs.ByNumber.{By};
 ghost use Rattle.vhost_c.specs.Calls.{Appends, AtBoth};
 ghost use Rattle.vhost_c.specs.Program.{Does, IsCalled, ReadsTo, IsSound, is_harmless, ends_none};
-ghost use Rattle.vhost_c.specs.Session.{Sending, Stays};
+ghost use Rattle.vhost_c.specs.Session.{LettingGo, Sending, Stays};
 
 use crate::answers::{
     covretin_answer_bases, covretin_answer_config, covretin_answer_fd, covretin_answer_inflight,
     covretin_answer_number, covretin_answer_shmem,
 };
 use crate::asks::{asked, rejected};
+use crate::held::{covretin_abandon, covretin_claim, covretin_unclaimed};
 use crate::holder::Holder;
 use crate::moving::{
     covretin_inactive, covretin_missing, covretin_receive, covretin_take, covretin_to_send,
@@ -54,6 +55,10 @@ pub enum ProgramCall {
     Take,
     /// `covretin_missing`, `covretin_inactive` or `covretin_answer_..`.
     Read(ProgramRead, Places),
+    /// A descriptor.
+    Claim(i32),
+    Unclaimed(Places),
+    Abandon,
     Close,
 }
 
@@ -98,6 +103,9 @@ fn make(alloc: Global, session: &mut Holder, call: ProgramCall) -> ProgramAnswer
         }
         ProgramCall::Take => bare(alloc, covretin_take(alloc, session)),
         ProgramCall::Read(what, places) => read(alloc, session, what, places),
+        ProgramCall::Claim(fd) => bare(alloc, covretin_claim(alloc, session, fd)),
+        ProgramCall::Unclaimed(places) => unclaimed(alloc, session, places),
+        ProgramCall::Abandon => bare(alloc, covretin_abandon(alloc, session)),
         ProgramCall::Close => {
             covretin_close(alloc, session);
             bare(alloc, 0)
@@ -107,7 +115,8 @@ fn make(alloc: Global, session: &mut Holder, call: ProgramCall) -> ProgramAnswer
 
 /// Hands out a piece of what is to be sent.
 fn to_send(alloc: Global, session: &mut Holder, mut places: Places) -> ProgramAnswer
-    ensures { By (Sending result.places.bytes.items result.places.fds.items (result.places.byte_count, result.places.fd_count)) session.old.session result.number session.new.session }
+    ensures sent { By (Sending result.places.bytes.items result.places.fds.items (result.places.byte_count, result.places.fd_count)) session.old.session result.number session.new.session }
+    ensures held { By (λ s o s'. s'.held ≡ s.held) session.old.session result.number session.new.session }
 {
     let number = covretin_to_send(
         alloc,
@@ -156,6 +165,14 @@ fn read_to(alloc: Global, session: &mut Holder, what: ProgramRead, at: &mut Plac
             covretin_answer_shmem(alloc, session, &mut at.numbers, &mut at.count)
         }
     }
+}
+
+/// Hands out descriptors that nobody will claim.
+fn unclaimed(alloc: Global, session: &mut Holder, mut places: Places) -> ProgramAnswer
+    ensures { By (LettingGo places.fds.items result.places.count result.places.fds.items) session.old.session result.number session.new.session }
+{
+    let number = covretin_unclaimed(alloc, session, &mut places.fds, &mut places.count);
+    ProgramAnswer { number, places }
 }
 
 /// A session is opened, and a program makes any calls. Each is answered; and where there was no session before, and each

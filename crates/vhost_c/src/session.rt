@@ -59,8 +59,8 @@ pub struct Session {
 impl Session {
     ghost use Rattle.vhost_message.specs.declared.limits.TheConstants.{MAX_MSG_TEXT};
     ghost use Rattle.vhost_c_common.specs.Moving.{HandsOut};
-    ghost use Rattle.vhost_c.specs.Session.{IsNew, Changes, Asks, Asking, Rejecting, Becomes, Stays, Fails, Takes, Claiming, Drops, KeepsRest, TakesHeld, is_first, queued, view, missing_of};
-    ghost use Rattle.vhost_c_common.specs.Held.{Gets, HandsLoose, Released};
+    ghost use Rattle.vhost_c.specs.Session.{IsNew, Changes, Asks, Asking, Rejecting, Becomes, Stays, Fails, Takes, Claiming, Drops, TakesHeld, is_first, queued, view, missing_of};
+    ghost use Rattle.vhost_c_common.specs.Held.{Claims, Gets, HandsLoose, Released};
     ghost use Rattle.std.specs.Prelude.{is_some};
     ghost use Rattle.vhost_c_common.specs.View.{Hands, HandsNone, Lasts, Receives, TakesNone};
 
@@ -277,18 +277,26 @@ impl Session {
         if self.asked.is_some() {
             return Err(Refusal::OtherAnswer);
         }
-        if self.held.claim(fd) {
+        if self.claim_held(fd) {
             Ok(())
         } else {
             Err(Refusal::OtherAnswer)
         }
     }
 
+    /// Claims a descriptor of those that are held, and answers whether it may be.
+    fn claim_held(&mut self, fd: i32) -> bool
+        ensures claims { Claims fd self.old.held result self.new.held }
+        ensures rest { self.new ≡ record self.old { held = self.new.held } }
+    {
+        self.held.claim(fd)
+    }
+
     /// Hands out descriptors that nobody will claim, to the front of a place: how many. They are the caller's from now on, which
     /// closes them. None is left where it is 0 and the place has room.
     pub(crate) fn unclaimed(&mut self, place: &mut [i32]) -> usize
         ensures out { HandsLoose self.old.held place.old result place.new self.new.held }
-        ensures rest { KeepsRest self.old self.new }
+        ensures rest { self.new ≡ record self.old { held = self.new.held } }
     {
         self.held.hand_out(place)
     }
@@ -297,7 +305,7 @@ impl Session {
     /// done with.
     pub(crate) fn abandon(&mut self)
         ensures released { Released self.old.held self.new.held }
-        ensures rest { KeepsRest self.old self.new }
+        ensures rest { self.new ≡ record self.old { held = self.new.held } }
     {
         self.held.release();
     }
