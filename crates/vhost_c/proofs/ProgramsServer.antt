@@ -1,7 +1,7 @@
 -- What a call of a program promises of a frontend's session of the backend channel that calls made.
 use Rattle.std.proofs.Common.{◌≡◌, ◌≤◌, ◌⊎◌, inl, inr, ℕ, ℤ, Bool, true, false, List, [], ◌∷◌, length, Option, Some, None, Result, Ok, Err, refl, sym, ap, subst, ◌∙◌, arith}
 use Rattle.std.specs.Global.{Global}
-use Rattle.std.specs.Prelude.{Vec, ◌≢◌, ⊤, is_some, ok_or, ◌==◌, ◌||◌, nat_lt, if◌then◌else◌}
+use Rattle.std.specs.Prelude.{Vec, ⊤, is_some, ok_or, ◌==◌, ◌||◌, nat_lt, if◌then◌else◌}
 use Rattle.vhost_message.specs.BackendReq.{backend_request_of}
 use Rattle.vhost_message.specs.Cause.{error_of}
 use Rattle.vhost_message.specs.declared.backend_req.BackendReq.{BackendReq}
@@ -39,7 +39,7 @@ use Rattle.vhost_c_common.specs.declared.incoming.Incoming.{Incoming}
 use Rattle.vhost_c_common.specs.declared.refusal.Refusal.{Refusal}
 use Rattle.vhost_c_common.specs.declared.refusal.Refusal.TheVariants as refusal
 use Rattle.vhost_c_channel.specs.Arguments.{PutsName, Puts, name_arg, mmap_arg, fd_arg}
-use Rattle.vhost_c_channel.specs.Serving.{Acknowledges, Answering, Begins, Beginning, Concludes, Denies, Ending, IsServed, Nexts, Putting, PutsInto, Receiving, Replies, Request, Sending, Telling, Tells, arrived, concluded, has_call, is_handed, missing_of, remembers, stopped, told, view}
+use Rattle.vhost_c_channel.specs.Serving.{Abandoning, Acknowledges, Answering, Begins, Beginning, Claiming, Concludes, Denies, Ending, IsServed, LettingGo, Nexts, Putting, PutsInto, Receiving, Replies, Request, Sending, Telling, Tells, arrived, concluded, has_call, is_handed, missing_of, remembers, stopped, told, view}
 use Rattle.vhost_c_channel.specs.declared.serving.ChannelServer.{ChannelServer}
 use Rattle.vhost_c.specs.Calls.{AtBoth, none, some, is_named, socket_retry}
 use Rattle.vhost_c.specs.Channel.{Acknowledging, OpensServer, opened, was_open, no_room}
@@ -47,9 +47,11 @@ use Rattle.vhost_c.specs.ProgramServer.{Does, IsAlike, IsCalled, IsConcluded, Is
 use Rattle.vhost_c.specs.declared.places.Places.{Places}
 use Rattle.vhost_c.specs.declared.places.ProgramAnswer.{ProgramAnswer}
 use Rattle.vhost_c.specs.declared.program_server.ServerCall.{ServerCall}
-use Rattle.vhost_c.specs.declared.program_server.ServerCall.TheVariants.{Open, SetReplyAck, Receive, End as Ends, ToSend, Next, Read, ReplyNumber, ReplyErrno, Close}
+use Rattle.vhost_c.specs.declared.program_server.ServerCall.TheVariants.{Open, SetReplyAck, Receive, End as Ends, ToSend, Next, Read, ReplyNumber, ReplyErrno, Claim, Unclaimed, Abandon, Close}
 use Rattle.vhost_c.specs.declared.program_server.ServerRead.{ServerRead}
 use Rattle.vhost_c.specs.declared.program_server.ServerRead.TheVariants as read
+use Rattle.vhost_c.proofs.Calling as calling
+use Rattle.vhost_c.proofs.Calling.{kept, on-held, promised}
 use Rattle.vhost_c.proofs.AskRefusals.{seen_number, is-seen}
 use Rattle.vhost_c.proofs.Refusing.{more-came, none-handed, none-taken, none-unread, of-want, stop-error, stop-number, stop-uncut, trouble-sound, trouble-uncut}
 use Rattle.vhost_c.proofs.ReverseRows.{row-again, row-invalid}
@@ -76,23 +78,12 @@ abbrev pub Good : Option ChannelServer → Type 0
 Good None = ⊤
 Good (Some s) = IsGood s
 
--- What a call promises beside what it does, by its number.
-pub record Promises (call : ServerCall) (n : ℕ) (old new : Option ChannelServer) : Type 0 where
-  pub named : is_named (refusals call) n ≡ true
-  pub leaves : n ≢ 0 → Leaves call n old new
-  pub sound : is_harmless n ≡ true → IsSound old → IsSound new
-  pub good : Good new
-
-promised : (call : ServerCall) (n m : ℕ) (old new : Option ChannelServer) → n ≡ m → Promises call m old new → Promises call n old new
-promised call n m old new is p = subst (λ k. Promises call k old new) (sym is) p
+abbrev Promises : ServerCall → ℕ → Option ChannelServer → Option ChannelServer → Type 0
+Promises = calling.Promises refusals Leaves is_harmless IsSound Good
 
 -- where there is no session
 absent : (call : ServerCall) → is_named (refusals call) 101 ≡ true → Leaves call 101 None None → Promises call 101 None None
 absent call named leaves = record { named = named; leaves = λ refused. leaves; sound = λ harmless was. tt; good = tt }
-
--- where nothing changed
-kept : (call : ServerCall) (n : ℕ) {old new : Option ChannelServer} → is_named (refusals call) n ≡ true → (new ≡ old → Leaves call n old new) → new ≡ old → Good old → Promises call n old new
-kept call n named leaves same good = record { named = named; leaves = λ refused. leaves same; sound = λ harmless was. subst IsSound (sym same) was; good = subst Good (sym same) good }
 
 -- what came is as before
 still-came : (s t : ChannelServer) → arrived t ≡ arrived s → t.incoming ≡ s.incoming → s.incoming.count ≤ length (arrived s) → t.incoming.count ≤ length (arrived t)
@@ -432,18 +423,36 @@ module _ (call : ServerCall) (gone : is_named (refusals call) 101 ≡ true) (not
           promised call (outcome_number out) (outcome_number (told r.result)) (Some s) (Some t) (ap outcome_number r.is_told)
           (replied s t (outcome_number (told r.result)) r.idle r.incoming (ap {A = Server} (λ k. k.failed) r.memory ∙ good.unmarked) (left y.request a s t r.result good r.concludes))
 
+-- ---- descriptors
+
+-- nothing changed but which are held
+holds : (call : ServerCall) (s t : ChannelServer) → t ≡ record s { held = t.held } → IsGood s → Promises call 0 (Some s) (Some t)
+holds call s t same good = record {
+  named = refl;
+  leaves = λ refused. absurd (refused refl);
+  sound = λ harmless was. ap {A = ChannelServer} (λ x. (endpoint_of x.core).broken) same ∙ was;
+  good = good-still s t (ap {A = ChannelServer} (λ x. (view x).rest) same) (ap {A = ChannelServer} (λ x. (view x).end) same) (ap {A = ChannelServer} (λ x. arrived x) same) (ap {A = ChannelServer} (λ x. x.incoming) same) good;
+}
+
+not-claimed : (fd : ℤ) (s t : ChannelServer) (r : Refusal) → Claiming fd s (Err r) t → IsGood s → Promises (Claim fd) (number r) (Some s) (Some t)
+not-claimed fd s t refusal.OtherCall x good = kept (Claim fd) 110 refl (λ same. same) (ap Some x.1) good
+not-claimed fd s t _ x good = absurd x
+
 -- ---- all calls
 
 promises : TalksLaw → (call : ServerCall) (a : ProgramAnswer) (old new : Option ChannelServer) → Does call a old new → Good old → Promises call a.number old new
 promises law Open a old new does good = opens does good
 promises law (SetReplyAck on) a old new does good = acknowledges on does good
-promises law (Receive bytes fds) a old new does good = receives bytes fds bytes.items fds.items does good
+promises law (Receive bytes fds) a old new does good = receives bytes fds bytes.items fds.items does.0 good
 promises law Ends a old new does good = ended does good
-promises law (ToSend p) a old new does good = sends p a.places.bytes.items a.places.fds.items (a.places.byte_count, a.places.fd_count) does good
+promises law (ToSend p) a old new does good = sends p a.places.bytes.items a.places.fds.items (a.places.byte_count, a.places.fd_count) does.0 good
 promises law (Next p) a old new does good = next law p a.places.code does good
 promises law (Read what p) a old new does good = reads-to what p a.places a.number old new does good
 promises law (ReplyNumber n) a old new does good = answers (ReplyNumber n) refl refl refl refl (λ o o' same. same) refl (λ o o' both. both) _ does good
 promises law (ReplyErrno n) a old new does good = answers (ReplyErrno n) refl refl refl refl (λ o o' same. same) refl (λ o o' both. both) _ does good
+promises law (Claim fd) a old new does good = on-held Good (Promises (Claim fd)) (Claiming fd) (absent (Claim fd) refl refl) (λ s t u x. holds (Claim fd) s t x.2) (not-claimed fd) does good
+promises law (Unclaimed p) a old new does good = on-held Good (Promises (Unclaimed p)) (LettingGo p.fds.items a.places.count a.places.fds.items) (absent (Unclaimed p) refl refl) (λ s t u x. holds (Unclaimed p) s t x.1) (λ s t r x. absurd x) does good
+promises law Abandon a old new does good = on-held Good (Promises Abandon) Abandoning (absent Abandon refl refl) (λ s t u x. holds Abandon s t x.1) (λ s t r x. absurd x) does good
 promises law Close a old new (is, gone) good = promised Close a.number 0 old new is (record { named = refl; leaves = λ refused. absurd (refused refl); sound = λ harmless was. subst IsSound (sym gone) tt; good = subst Good (sym gone) tt })
 
 -- each call of a session that calls made is one that promises this, and leaves such a session

@@ -8,14 +8,14 @@ use Rattle.vhost_c_common.specs.ByNumber.{By}
 use Rattle.vhost_c_common.specs.Number.{number, error_number}
 use Rattle.vhost_c_common.specs.declared.refusal.Refusal.TheVariants.{NoSession, SessionOpen, NothingAsked, NotYet, TooManyBytes, NoRoom, NotReplied, OtherCall}
 use Rattle.vhost_c_channel.specs.Arguments.{mmap_arg, fd_arg}
-use Rattle.vhost_c_channel.specs.Serving.{Answering, Beginning, Ending, Putting, Receiving, Sending, Telling, has_call, view}
+use Rattle.vhost_c_channel.specs.Serving.{Abandoning, Answering, Beginning, Claiming, Ending, Getting, LettingGo, Putting, Receiving, Sending, Telling, has_call, view}
 use Rattle.vhost_c_channel.specs.declared.serving.ChannelServer.{ChannelServer}
 use Rattle.vhost_c.specs.Calls.{AtBoth, is_named, socket_broken, socket_retry}
 use Rattle.vhost_c.specs.Channel.{Acknowledging, OpensServer, missing_of_server}
 use Rattle.vhost_c.specs.declared.places.Places.{Places}
 use Rattle.vhost_c.specs.declared.places.ProgramAnswer.{ProgramAnswer}
 use Rattle.vhost_c.specs.declared.program_server.ServerCall.{ServerCall}
-use Rattle.vhost_c.specs.declared.program_server.ServerCall.TheVariants.{Open, SetReplyAck, Receive, End, ToSend, Next, Read, ReplyNumber, ReplyErrno, Close}
+use Rattle.vhost_c.specs.declared.program_server.ServerCall.TheVariants.{Open, SetReplyAck, Receive, End, ToSend, Next, Read, ReplyNumber, ReplyErrno, Claim, Unclaimed, Abandon, Close}
 use Rattle.vhost_c.specs.declared.program_server.ServerRead.{ServerRead}
 use Rattle.vhost_c.specs.declared.program_server.ServerRead.TheVariants as read
 
@@ -30,13 +30,16 @@ ReadsTo read.Fd before after old n new = By (Telling fd_arg after.fd) old n new
 abbrev pub Does : ServerCall → ProgramAnswer → Option ChannelServer → Option ChannelServer → Type 0
 Does Open a old new = OpensServer old a.number new
 Does (SetReplyAck on) a old new = By (Acknowledging on) old a.number new
-Does (Receive bytes fds) a old new = By (Receiving bytes.items fds.items) old a.number new
+Does (Receive bytes fds) a old new = By (Receiving bytes.items fds.items) old a.number new × By (Getting fds.items) old a.number new
 Does End a old new = By Ending old a.number new
-Does (ToSend p) a old new = By (Sending a.places.bytes.items a.places.fds.items (a.places.byte_count, a.places.fd_count)) old a.number new
+Does (ToSend p) a old new = By (Sending a.places.bytes.items a.places.fds.items (a.places.byte_count, a.places.fd_count)) old a.number new × By (λ s o s'. s'.held ≡ s.held) old a.number new
 Does (Next p) a old new = By (Beginning a.places.code) old a.number new
 Does (Read what p) a old new = ReadsTo what p a.places old a.number new
 Does (ReplyNumber n) a old new = By (Answering (Ok n)) old a.number new
 Does (ReplyErrno n) a old new = By (Answering (Err (Because (Raw n)))) old a.number new
+Does (Claim fd) a old new = By (Claiming fd) old a.number new
+Does (Unclaimed p) a old new = By (LettingGo p.fds.items a.places.count a.places.fds.items) old a.number new
+Does Abandon a old new = By Abandoning old a.number new
 Does Close a old new = (a.number ≡ 0) × (new ≡ None)
 
 -- ---- what a call may answer
@@ -67,6 +70,9 @@ refusals (Next p) = number NoSession ∷ number NotReplied ∷ number NotYet ∷
 refusals (Read what p) = read_refusals what
 refusals (ReplyNumber n) = reply_refusals
 refusals (ReplyErrno n) = reply_refusals
+refusals (Claim fd) = number NoSession ∷ number OtherCall ∷ []
+refusals (Unclaimed p) = number NoSession ∷ []
+refusals Abandon = number NoSession ∷ []
 refusals Close = []
 
 -- ---- what a refusal leaves

@@ -2,7 +2,7 @@
 
 ghost use Rattle.std.specs.Prelude.{◌≡◌, ◌<◌, ◌+◌, true, All, None, IfOk, IfErr, length, vec_len, vec_capacity};
 ghost use Rattle.vhost_c_common.specs.ByNumber.{By};
-ghost use Rattle.vhost_c_channel.specs.Serving.{Beginning, Sending};
+ghost use Rattle.vhost_c_channel.specs.Serving.{Beginning, LettingGo, Sending};
 ghost use Rattle.vhost_c.specs.Calls.{Appends, IsMade, Runs};
 ghost use Rattle.vhost_c.specs.ProgramServer.{Does, IsCalled, IsSound, ReadsTo, is_harmless};
 
@@ -10,6 +10,10 @@ use crate::channel_arguments::{
     covretin_channel_call_fd, covretin_channel_call_mmap, covretin_channel_call_name,
 };
 use crate::channel_replies::{covretin_channel_reply_errno, covretin_channel_reply_number};
+use crate::channel_server_held::{
+    covretin_channel_server_abandon, covretin_channel_server_claim,
+    covretin_channel_server_unclaimed,
+};
 use crate::channel_server_holder::ChannelServerHolder;
 use crate::channel_server_moving::{
     covretin_channel_server_end, covretin_channel_server_missing, covretin_channel_server_next,
@@ -46,6 +50,10 @@ pub enum ServerCall {
     Read(ServerRead, Places),
     ReplyNumber(u64),
     ReplyErrno(i32),
+    /// A descriptor.
+    Claim(i32),
+    Unclaimed(Places),
+    Abandon,
     Close,
 }
 
@@ -98,6 +106,9 @@ fn make(alloc: Global, server: &mut ChannelServerHolder, call: ServerCall) -> Pr
             alloc,
             covretin_channel_reply_errno(alloc, server, number),
         ),
+        ServerCall::Claim(fd) => bare(alloc, covretin_channel_server_claim(alloc, server, fd)),
+        ServerCall::Unclaimed(places) => unclaimed(alloc, server, places),
+        ServerCall::Abandon => bare(alloc, covretin_channel_server_abandon(alloc, server)),
         ServerCall::Close => {
             covretin_channel_server_close(alloc, server);
             bare(alloc, 0)
@@ -107,7 +118,8 @@ fn make(alloc: Global, server: &mut ChannelServerHolder, call: ServerCall) -> Pr
 
 /// Hands out a piece of what is to be sent.
 fn to_send(alloc: Global, server: &mut ChannelServerHolder, mut places: Places) -> ProgramAnswer
-    ensures { By (Sending result.places.bytes.items result.places.fds.items (result.places.byte_count, result.places.fd_count)) server.old.session result.number server.new.session }
+    ensures sent { By (Sending result.places.bytes.items result.places.fds.items (result.places.byte_count, result.places.fd_count)) server.old.session result.number server.new.session }
+    ensures held { By (λ s o s'. s'.held ≡ s.held) server.old.session result.number server.new.session }
 {
     let number = covretin_channel_server_to_send(
         alloc,
@@ -159,6 +171,19 @@ fn read_to(
         ServerRead::Mmap => covretin_channel_call_mmap(alloc, server, &mut at.mmap),
         ServerRead::Fd => covretin_channel_call_fd(alloc, server, &mut at.fd),
     }
+}
+
+/// Hands out descriptors that nobody will claim.
+fn unclaimed(alloc: Global, server: &mut ChannelServerHolder, mut places: Places) -> ProgramAnswer
+    ensures { By (LettingGo places.fds.items result.places.count result.places.fds.items) server.old.session result.number server.new.session }
+{
+    let number = covretin_channel_server_unclaimed(
+        alloc,
+        server,
+        &mut places.fds,
+        &mut places.count,
+    );
+    ProgramAnswer { number, places }
 }
 
 /// A program makes any calls, where there is no session before. Each is answered by 0 or one of its refusals; and where each answer
