@@ -1,7 +1,7 @@
 -- What a call of a program promises of a device's session of the backend channel that calls made.
 use Rattle.std.proofs.Common.{◌≡◌, ◌<◌, ◌≤◌, ◌+◌, ◌-◌, ◌⊎◌, inl, inr, ℕ, ℤ, Bool, true, false, ◌&&◌, List, [], ◌∷◌, length, take as front, drop, Option, Some, None, Result, Ok, Err, refl, sym, ap, subst, ◌∙◌, arith}
 use Rattle.std.specs.Global.{Global}
-use Rattle.std.specs.Prelude.{Vec, ◌≢◌, ⊤, is_some, not, ◌==◌, ◌||◌, nat_lt, if◌then◌else◌}
+use Rattle.std.specs.Prelude.{Vec, ⊤, is_some, not, ◌==◌, ◌||◌, nat_lt, if◌then◌else◌}
 use Rattle.vhost_message.specs.BackendReq.{backend_request_of}
 use Rattle.vhost_message.specs.Header.{Header, header_of, is_reply_for}
 use Rattle.vhost_message.specs.MsgHeader.{fields_of}
@@ -39,7 +39,7 @@ use Rattle.vhost_c_common.specs.declared.incoming.Incoming.{Incoming}
 use Rattle.vhost_c_common.specs.declared.refusal.Refusal.{Refusal}
 use Rattle.vhost_c_common.specs.declared.refusal.Refusal.TheVariants as refusal
 use Rattle.vhost_c_channel.specs.Asking as session
-use Rattle.vhost_c_channel.specs.Asking.{Agrees, Asking, Asks, Head, Hears, Receiving, Refused, Sending, Settles, Stays, Takes, Unasked, arrived, endpoint_of, error_in, flag_in, missing_for, missing_of, remembers, told, view}
+use Rattle.vhost_c_channel.specs.Asking.{Agrees, Asking, Asks, Head, Hears, LettingGo, Receiving, Refused, Sending, Settles, Stays, Takes, Unasked, arrived, endpoint_of, error_in, flag_in, missing_for, missing_of, remembers, told, view}
 use Rattle.vhost_c_channel.specs.declared.asking.Channel.{Channel}
 use Rattle.vhost_c_channel.specs.declared.asking.Feature.{Feature}
 use Rattle.vhost_c_channel.specs.declared.asking.Feature.TheVariants as feature
@@ -51,7 +51,9 @@ use Rattle.vhost_c.specs.declared.places.ProgramAnswer.{ProgramAnswer}
 use Rattle.vhost_c.specs.declared.program_channel.ChannelAsk.{ChannelAsk}
 use Rattle.vhost_c.specs.declared.program_channel.ChannelAsk.TheVariants as ask
 use Rattle.vhost_c.specs.declared.program_channel.ChannelCall.{ChannelCall}
-use Rattle.vhost_c.specs.declared.program_channel.ChannelCall.TheVariants.{Open, Agree, Ask, ToSend, Missing, Receive, Take, Close}
+use Rattle.vhost_c.specs.declared.program_channel.ChannelCall.TheVariants.{Open, Agree, Ask, ToSend, Missing, Receive, Take, Unclaimed, Close}
+use Rattle.vhost_c.proofs.Calling as calling
+use Rattle.vhost_c.proofs.Calling.{kept, on-held, promised}
 use Rattle.vhost_c.proofs.AskRefusals.{seen_number, is-seen}
 use Rattle.vhost_c.proofs.Programs as frontend
 use Rattle.vhost_c.proofs.Refusing.{fails-sound, more-came, more-named, none-handed, none-taken, of-want}
@@ -73,23 +75,12 @@ abbrev pub Good : Option Channel → Type 0
 Good None = ⊤
 Good (Some s) = IsGood s
 
--- What a call promises beside what it does, by its number.
-pub record Promises (call : ChannelCall) (n : ℕ) (old new : Option Channel) : Type 0 where
-  pub named : is_named (refusals call) n ≡ true
-  pub leaves : n ≢ 0 → Leaves call n old new
-  pub sound : is_harmless n ≡ true → IsSound old → IsSound new
-  pub good : Good new
-
-promised : (call : ChannelCall) (n m : ℕ) (old new : Option Channel) → n ≡ m → Promises call m old new → Promises call n old new
-promised call n m old new is p = subst (λ k. Promises call k old new) (sym is) p
+abbrev Promises : ChannelCall → ℕ → Option Channel → Option Channel → Type 0
+Promises = calling.Promises refusals Leaves is_harmless IsSound Good
 
 -- where there is no session
 absent : (call : ChannelCall) → is_named (refusals call) 101 ≡ true → Leaves call 101 None None → Promises call 101 None None
 absent call named leaves = record { named = named; leaves = λ refused. leaves; sound = λ harmless was. tt; good = tt }
-
--- where nothing changed
-kept : (call : ChannelCall) (n : ℕ) {old new : Option Channel} → is_named (refusals call) n ≡ true → (new ≡ old → Leaves call n old new) → new ≡ old → Good old → Promises call n old new
-kept call n named leaves same good = record { named = named; leaves = λ refused. leaves same; sound = λ harmless was. subst IsSound (sym same) was; good = subst Good (sym same) good }
 
 -- a harmless answer is another
 other : (n : ℕ) → is_harmless n ≡ true → n ≡ 16 → ⊥
@@ -411,16 +402,28 @@ taken : {n : ℕ} {old new : Option Channel} → By (λ s o s'. Takes s s' o) ol
 taken by.none good = absent Take refl refl
 taken (by.some {s = s} {s' = t} {outcome = o} does) good = takes s t o does good
 
+-- ---- descriptors
+
+-- nothing changed but which are held
+holds : (p : Places) (s t : Channel) → t ≡ record s { held = t.held } → IsGood s → Promises (Unclaimed p) 0 (Some s) (Some t)
+holds p s t same good = record {
+  named = refl;
+  leaves = λ refused. absurd (refused refl);
+  sound = λ harmless was. ap {A = Channel} (λ x. (endpoint_of x).broken) same ∙ was;
+  good = good-since s t (ap {A = Channel} (λ x. (view x).rest) same) (ap {A = Channel} (λ x. (view x).end) same) (λ waits. still-came s t (ap {A = Channel} (λ x. arrived x) same) (ap {A = Channel} (λ x. x.incoming) same) (good.came waits)) good;
+}
+
 -- ---- all calls
 
 promises : (call : ChannelCall) (a : ProgramAnswer) (old new : Option Channel) → Does call a old new → Good old → Promises call a.number old new
 promises Open a old new does good = opens does good
 promises (Agree f on) a old new does good = agrees f on does good
 promises (Ask what) a old new does good = asks-to what a.number old new does good
-promises (ToSend p) a old new does good = sends p a.places.bytes.items a.places.fds.items (a.places.byte_count, a.places.fd_count) does good
+promises (ToSend p) a old new does good = sends p a.places.bytes.items a.places.fds.items (a.places.byte_count, a.places.fd_count) does.0 good
 promises (Missing p) a old new (is, missing, same) good = promised (Missing p) a.number 0 old new is (kept (Missing p) 0 refl (λ same. same) same good)
-promises (Receive bytes fds) a old new does good = receives bytes fds bytes.items fds.items does good
+promises (Receive bytes fds) a old new does good = receives bytes fds bytes.items fds.items does.0 good
 promises Take a old new does good = taken does good
+promises (Unclaimed p) a old new does good = on-held Good (Promises (Unclaimed p)) (LettingGo p.fds.items a.places.count a.places.fds.items) (absent (Unclaimed p) refl refl) (λ s t u x. holds p s t x.1) (λ s t r x. absurd x) does good
 promises Close a old new (is, gone) good = promised Close a.number 0 old new is (record { named = refl; leaves = λ refused. absurd (refused refl); sound = λ harmless was. subst IsSound (sym gone) tt; good = subst Good (sym gone) tt })
 
 -- each call of a session that calls made is one that promises this, and leaves such a session

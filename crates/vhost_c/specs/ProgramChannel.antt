@@ -6,7 +6,7 @@ use Rattle.vhost_c_common.specs.ByNumber.{By}
 use Rattle.vhost_c_common.specs.Number.{number, error_number}
 use Rattle.vhost_c_common.specs.Records.{handle_in}
 use Rattle.vhost_c_common.specs.declared.refusal.Refusal.TheVariants.{NoSession, SessionOpen, NotTaken, NothingAsked, NotYet, TooManyBytes, NoRoom}
-use Rattle.vhost_c_channel.specs.Asking.{Receiving, Sending, Settles, Stays, Takes, endpoint_of, view}
+use Rattle.vhost_c_channel.specs.Asking.{Getting, LettingGo, Receiving, Sending, Settles, Stays, Takes, endpoint_of, view}
 use Rattle.vhost_c_channel.specs.Records.{mmap_in}
 use Rattle.vhost_c_channel.specs.declared.asking.Channel.{Channel}
 use Rattle.vhost_c.specs.Calls.{AtBoth, inactive_operation, is_named, socket_broken, socket_retry}
@@ -16,7 +16,7 @@ use Rattle.vhost_c.specs.declared.places.ProgramAnswer.{ProgramAnswer}
 use Rattle.vhost_c.specs.declared.program_channel.ChannelAsk.{ChannelAsk}
 use Rattle.vhost_c.specs.declared.program_channel.ChannelAsk.TheVariants as ask
 use Rattle.vhost_c.specs.declared.program_channel.ChannelCall.{ChannelCall}
-use Rattle.vhost_c.specs.declared.program_channel.ChannelCall.TheVariants.{Open, Agree, Ask, ToSend, Missing, Receive, Take, Close}
+use Rattle.vhost_c.specs.declared.program_channel.ChannelCall.TheVariants.{Open, Agree, Ask, ToSend, Missing, Receive, Take, Unclaimed, Close}
 
 -- What an ask does.
 abbrev pub AsksTo : ChannelAsk → Option Channel → ℕ → Option Channel → Type 0
@@ -32,10 +32,11 @@ abbrev pub Does : ChannelCall → ProgramAnswer → Option Channel → Option Ch
 Does Open a old new = OpensChannel old a.number new
 Does (Agree feature on) a old new = By (Agreeing feature on) old a.number new
 Does (Ask what) a old new = AsksTo what old a.number new
-Does (ToSend p) a old new = By (Sending a.places.bytes.items a.places.fds.items (a.places.byte_count, a.places.fd_count)) old a.number new
+Does (ToSend p) a old new = By (Sending a.places.bytes.items a.places.fds.items (a.places.byte_count, a.places.fd_count)) old a.number new × By (λ s o s'. s'.held ≡ s.held) old a.number new
 Does (Missing p) a old new = (a.number ≡ 0) × (a.places.count ≡ missing_at old) × (new ≡ old)
-Does (Receive bytes fds) a old new = By (Receiving bytes.items fds.items) old a.number new
+Does (Receive bytes fds) a old new = By (Receiving bytes.items fds.items) old a.number new × By (Getting fds.items) old a.number new
 Does Take a old new = By (λ s o s'. Takes s s' o) old a.number new
+Does (Unclaimed p) a old new = By (LettingGo p.fds.items a.places.count a.places.fds.items) old a.number new
 Does Close a old new = (a.number ≡ 0) × (new ≡ None)
 
 -- ---- what a call may answer
@@ -59,6 +60,7 @@ refusals (ToSend p) = number NoSession ∷ number NoRoom ∷ []
 refusals (Missing p) = []
 refusals (Receive bytes fds) = number NoSession ∷ number TooManyBytes ∷ error_number InvalidParam ∷ error_number OutOfMemory ∷ []
 refusals Take = number NoSession ∷ number NothingAsked ∷ number NotYet ∷ error_number InvalidMessage ∷ error_number FrontendInternalError ∷ error_number OutOfMemory ∷ socket_retry ∷ socket_broken ∷ []
+refusals (Unclaimed p) = number NoSession ∷ []
 refusals Close = []
 
 -- ---- what a refusal leaves

@@ -2,7 +2,7 @@
 
 ghost use Rattle.std.specs.Prelude.{◌≡◌, ◌<◌, ◌+◌, true, All, None, IfOk, IfErr, length, vec_len, vec_capacity};
 ghost use Rattle.vhost_c_common.specs.ByNumber.{By};
-ghost use Rattle.vhost_c_channel.specs.Asking.{Sending};
+ghost use Rattle.vhost_c_channel.specs.Asking.{LettingGo, Sending};
 ghost use Rattle.vhost_c.specs.Calls.{Appends, IsMade, Runs};
 ghost use Rattle.vhost_c.specs.Channel.{Agreeing, missing_at};
 ghost use Rattle.vhost_c.specs.ProgramChannel.{AsksTo, Does, IsCalled, IsSound, is_harmless};
@@ -15,7 +15,7 @@ use crate::channel_asks::{
 use crate::channel_holder::ChannelHolder;
 use crate::channel_moving::{
     covretin_channel_missing, covretin_channel_receive, covretin_channel_take,
-    covretin_channel_to_send,
+    covretin_channel_to_send, covretin_channel_unclaimed,
 };
 use crate::channel_opening::{
     covretin_channel_close, covretin_channel_open, covretin_channel_set_config_change,
@@ -49,6 +49,7 @@ pub enum ChannelCall {
     /// With bytes and descriptors.
     Receive(Vec<u8>, Vec<i32>),
     Take,
+    Unclaimed(Places),
     Close,
 }
 
@@ -89,6 +90,7 @@ fn make(alloc: Global, channel: &mut ChannelHolder, call: ChannelCall) -> Progra
             bare(alloc, number)
         }
         ChannelCall::Take => bare(alloc, covretin_channel_take(alloc, channel)),
+        ChannelCall::Unclaimed(places) => unclaimed(alloc, channel, places),
         ChannelCall::Close => {
             covretin_channel_close(alloc, channel);
             bare(alloc, 0)
@@ -132,7 +134,8 @@ fn asked(alloc: Global, channel: &mut ChannelHolder, what: ChannelAsk) -> u32
 
 /// Hands out a piece of what is to be sent.
 fn to_send(alloc: Global, channel: &mut ChannelHolder, mut places: Places) -> ProgramAnswer
-    ensures { By (Sending result.places.bytes.items result.places.fds.items (result.places.byte_count, result.places.fd_count)) channel.old.session result.number channel.new.session }
+    ensures sent { By (Sending result.places.bytes.items result.places.fds.items (result.places.byte_count, result.places.fd_count)) channel.old.session result.number channel.new.session }
+    ensures held { By (λ s o s'. s'.held ≡ s.held) channel.old.session result.number channel.new.session }
 {
     let number = covretin_channel_to_send(
         alloc,
@@ -153,6 +156,14 @@ fn missing(alloc: Global, channel: &mut ChannelHolder, mut places: Places) -> Pr
 {
     places.count = covretin_channel_missing(alloc, channel);
     ProgramAnswer { number: 0, places }
+}
+
+/// Hands out descriptors that came.
+fn unclaimed(alloc: Global, channel: &mut ChannelHolder, mut places: Places) -> ProgramAnswer
+    ensures { By (LettingGo places.fds.items result.places.count result.places.fds.items) channel.old.session result.number channel.new.session }
+{
+    let number = covretin_channel_unclaimed(alloc, channel, &mut places.fds, &mut places.count);
+    ProgramAnswer { number, places }
 }
 
 /// A program makes any calls, where there is no session before. Each is answered by 0 or one of its refusals; and where each answer
