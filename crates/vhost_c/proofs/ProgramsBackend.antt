@@ -1,7 +1,7 @@
 -- What a call of a program promises of a backend's session that calls made.
 use Rattle.std.proofs.Common.{◌≡◌, ◌≤◌, ◌⊎◌, inl, inr, ℕ, ℤ, Bool, true, false, List, [], ◌∷◌, length, Option, Some, None, Result, Ok, Err, refl, sym, ap, subst, ◌∙◌, arith}
 use Rattle.std.specs.Global.{Global}
-use Rattle.std.specs.Prelude.{Vec, ◌≢◌, ⊤, All, is_some, ok_or, ◌==◌, ◌||◌, nat_lt, if◌then◌else◌}
+use Rattle.std.specs.Prelude.{Vec, ⊤, All, is_some, ok_or, ◌==◌, ◌||◌, nat_lt, if◌then◌else◌}
 use Rattle.vhost_message.specs.declared.error.Error as declared
 use Rattle.vhost_message.specs.declared.error.Error.TheVariants as code
 use Rattle.vhost_message.specs.declared.limits.TheConstants.{MSG_HEADER_SIZE}
@@ -49,7 +49,7 @@ use Rattle.vhost_c_common.specs.declared.refusal.Refusal.TheVariants as refusal
 use Rattle.vhost_c_backend.proofs.Three.{Kept}
 use Rattle.vhost_c_backend.specs.Arguments.{PutsList, PutsNamed, regions_arg, config_arg, name_arg, other_arg, fds_arg}
 use Rattle.vhost_c_backend.specs.Replies.{Gives, Rejects, GivesShmem, RejectsShmem, IsBad, IsCopied, fits, form_in}
-use Rattle.vhost_c_backend.specs.Served.{Choosing, Ending, Receiving, Sending, arrived, end_number, has_call, missing_of, missing_of_request, remembers, view}
+use Rattle.vhost_c_backend.specs.Served.{Abandoning, Choosing, Claiming, Ending, LettingGo, Receiving, Sending, arrived, end_number, has_call, missing_of, missing_of_request, remembers, view}
 use Rattle.vhost_c_backend.specs.Serving.{Answering, AnsweringShmem, Answers, Begins, Beginning, Channel, Concludes, Denies, Display, Ended, IsCall, IsOwn, IsServed, Nexts, Putting, Puts, Replies, Replying, Request, Telling, Tells, done, failed, rejected, stopped, told}
 use Rattle.vhost_c_backend.specs.declared.replies.Form.{Form}
 use Rattle.vhost_c_backend.specs.declared.replies.Form.TheVariants as form
@@ -62,11 +62,13 @@ use Rattle.vhost_c.specs.ProgramBackend.{Does, IsAlike, IsCalled, IsConcluded, I
 use Rattle.vhost_c.specs.declared.places.Places.{Places}
 use Rattle.vhost_c.specs.declared.places.ProgramAnswer.{ProgramAnswer}
 use Rattle.vhost_c.specs.declared.program_backend.BackendCall.{BackendCall}
-use Rattle.vhost_c.specs.declared.program_backend.BackendCall.TheVariants.{Open, SetProfile, Receive, End as Ends, ToSend, Next, Read, Reply, Close}
+use Rattle.vhost_c.specs.declared.program_backend.BackendCall.TheVariants.{Open, SetProfile, Receive, End as Ends, ToSend, Next, Read, Reply, Claim, Unclaimed, Abandon, Close}
 use Rattle.vhost_c.specs.declared.program_backend.BackendRead.{BackendRead}
 use Rattle.vhost_c.specs.declared.program_backend.BackendRead.TheVariants as read
 use Rattle.vhost_c.specs.declared.program_backend.BackendReply.{BackendReply}
 use Rattle.vhost_c.specs.declared.program_backend.BackendReply.TheVariants as answer
+use Rattle.vhost_c.proofs.Calling as calling
+use Rattle.vhost_c.proofs.Calling.{kept, on-held, promised}
 use Rattle.vhost_c.proofs.AskRefusals.{seen_number, is-seen}
 use Rattle.vhost_c.proofs.Refusing.{more-came, none-handed, none-taken, none-unread, of-want, stop-number, stop-uncut, trouble-sound, trouble-uncut}
 use Rattle.vhost_c.proofs.ReplyErrors.{config-given, fd-fine, inflight-fine, number-fine, ring-fine, shmem-fine}
@@ -85,23 +87,12 @@ abbrev pub Good : Option Served → Type 0
 Good None = ⊤
 Good (Some s) = IsGood s
 
--- What a call promises beside what it does, by its number.
-pub record Promises (call : BackendCall) (n : ℕ) (old new : Option Served) : Type 0 where
-  pub named : is_named (refusals call) n ≡ true
-  pub leaves : n ≢ 0 → Leaves call n old new
-  pub sound : is_harmless n ≡ true → IsSound old → IsSound new
-  pub good : Good new
-
-promised : (call : BackendCall) (n m : ℕ) (old new : Option Served) → n ≡ m → Promises call m old new → Promises call n old new
-promised call n m old new is p = subst (λ k. Promises call k old new) (sym is) p
+abbrev Promises : BackendCall → ℕ → Option Served → Option Served → Type 0
+Promises = calling.Promises refusals Leaves is_harmless IsSound Good
 
 -- where there is no session
 absent : (call : BackendCall) → is_named (refusals call) 101 ≡ true → Leaves call 101 None None → Promises call 101 None None
 absent call named leaves = record { named = named; leaves = λ refused. leaves; sound = λ harmless was. tt; good = tt }
-
--- where nothing changed
-kept : (call : BackendCall) (n : ℕ) {old new : Option Served} → is_named (refusals call) n ≡ true → (new ≡ old → Leaves call n old new) → new ≡ old → Good old → Promises call n old new
-kept call n named leaves same good = record { named = named; leaves = λ refused. leaves same; sound = λ harmless was. subst IsSound (sym same) was; good = subst Good (sym same) good }
 
 -- a call that is to be replied to is as long as the contracts see it so
 module _ (old new : Served) (rest : (view new).rest ≡ (view old).rest) (end : (view new).end ≡ (view old).end) where
@@ -570,17 +561,35 @@ replies-to (answer.Shmem sizes count) n old new (by.some {s = s} {s' = t} {outco
     answers (answer.Shmem sizes count) GivesShmem (RejectsShmem sizes.items) (λ s m a b o c given makes follows e is own. never o.answer e (shmem-fine s m a b o c given follows) is)
     (shmem-rejects (Refuses (answer.Shmem sizes count)) sizes.items (refl, refl) (refl, refl)) refl refl refl _ s t o x good
 
+-- ---- descriptors
+
+-- nothing changed but which are held
+holds : (call : BackendCall) (s t : Served) → t ≡ record s { held = t.held } → IsGood s → Promises call 0 (Some s) (Some t)
+holds call s t same good = record {
+  named = refl;
+  leaves = λ refused. absurd (refused refl);
+  sound = λ harmless was. ap {A = Served} (λ x. (endpoint_of x.core).broken) same ∙ was;
+  good = good-still s t (ap {A = Served} (λ x. (view x).rest) same) (ap {A = Served} (λ x. (view x).end) same) (ap {A = Served} (λ x. arrived x) same) (ap {A = Served} (λ x. x.incoming) same) good;
+}
+
+not-claimed : (fd : ℤ) (s t : Served) (r : Refusal) → Claiming fd s (Err r) t → IsGood s → Promises (Claim fd) (number r) (Some s) (Some t)
+not-claimed fd s t refusal.OtherCall x good = kept (Claim fd) 110 refl (λ same. same) (ap Some x.1) good
+not-claimed fd s t _ x good = absurd x
+
 -- ---- all calls
 
 promises : TalksLaw → (call : BackendCall) (a : ProgramAnswer) (old new : Option Served) → Does call a old new → Good old → Promises call a.number old new
 promises law Open a old new does good = opens does good
 promises law (SetProfile p) a old new does good = chosen p does good
-promises law (Receive bytes fds) a old new does good = receives bytes fds bytes.items fds.items does good
+promises law (Receive bytes fds) a old new does good = receives bytes fds bytes.items fds.items does.0 good
 promises law Ends a old new does good = ended does good
-promises law (ToSend p) a old new does good = sends p a.places.bytes.items a.places.fds.items (a.places.byte_count, a.places.fd_count) does good
+promises law (ToSend p) a old new does good = sends p a.places.bytes.items a.places.fds.items (a.places.byte_count, a.places.fd_count) does.0 good
 promises law (Next p) a old new does good = next law p a.places.code does good
 promises law (Read what p) a old new does good = reads-to what p a.places a.number old new does good
 promises law (Reply r) a old new does good = replies-to r a.number old new does good
+promises law (Claim fd) a old new does good = on-held Good (Promises (Claim fd)) (Claiming fd) (absent (Claim fd) refl refl) (λ s t u x. holds (Claim fd) s t x.2) (not-claimed fd) does good
+promises law (Unclaimed p) a old new does good = on-held Good (Promises (Unclaimed p)) (LettingGo p.fds.items a.places.count a.places.fds.items) (absent (Unclaimed p) refl refl) (λ s t u x. holds (Unclaimed p) s t x.1) (λ s t r x. absurd x) does good
+promises law Abandon a old new does good = on-held Good (Promises Abandon) Abandoning (absent Abandon refl refl) (λ s t u x. holds Abandon s t x.1) (λ s t r x. absurd x) does good
 promises law Close a old new (is, gone) good = promised Close a.number 0 old new is (record { named = refl; leaves = λ refused. absurd (refused refl); sound = λ harmless was. subst IsSound (sym gone) tt; good = subst Good (sym gone) tt })
 
 -- each call of a session that calls made is one that promises this, and leaves such a session

@@ -8,7 +8,7 @@ use Rattle.vhost_c_common.specs.Number.{number, error_number}
 use Rattle.vhost_c_common.specs.Profile.{profile_at}
 use Rattle.vhost_c_common.specs.declared.refusal.Refusal.TheVariants.{NoSession, SessionOpen, NothingAsked, NotYet, TooManyBytes, NoRoom, NotReplied, OtherCall}
 use Rattle.vhost_c_backend.specs.Arguments.{number_arg, ring_arg, vring_arg, ring_fd_arg, fd_arg, inflight_arg, transfer_arg, log_arg, PutsRegions, PutsConfig, PutsName, PutsOther, PutsFds}
-use Rattle.vhost_c_backend.specs.Served.{Choosing, Ending, Receiving, Sending, has_call, queued, view}
+use Rattle.vhost_c_backend.specs.Served.{Abandoning, Choosing, Claiming, Ending, Getting, LettingGo, Receiving, Sending, has_call, queued, view}
 use Rattle.vhost_c_backend.specs.Serving.{Answering, AnsweringShmem, Beginning, Putting, Telling}
 use Rattle.vhost_c_backend.specs.declared.replies.Reply.TheVariants as reply
 use Rattle.vhost_c_backend.specs.declared.served.Served.{Served}
@@ -17,7 +17,7 @@ use Rattle.vhost_c.specs.Calls.{AtBoth, inactive_feature, inactive_operation, in
 use Rattle.vhost_c.specs.declared.places.Places.{Places}
 use Rattle.vhost_c.specs.declared.places.ProgramAnswer.{ProgramAnswer}
 use Rattle.vhost_c.specs.declared.program_backend.BackendCall.{BackendCall}
-use Rattle.vhost_c.specs.declared.program_backend.BackendCall.TheVariants.{Open, SetProfile, Receive, End, ToSend, Next, Read, Reply, Close}
+use Rattle.vhost_c.specs.declared.program_backend.BackendCall.TheVariants.{Open, SetProfile, Receive, End, ToSend, Next, Read, Reply, Claim, Unclaimed, Abandon, Close}
 use Rattle.vhost_c.specs.declared.program_backend.BackendRead.{BackendRead}
 use Rattle.vhost_c.specs.declared.program_backend.BackendRead.TheVariants as read
 use Rattle.vhost_c.specs.declared.program_backend.BackendReply.{BackendReply}
@@ -58,12 +58,15 @@ RepliesBy (answer.Shmem sizes count) old n new = By (AnsweringShmem count sizes.
 abbrev pub Does : BackendCall → ProgramAnswer → Option Served → Option Served → Type 0
 Does Open a old new = OpensBackend old a.number new
 Does (SetProfile profile) a old new = By (Choosing (profile_at profile)) old a.number new
-Does (Receive bytes fds) a old new = By (Receiving bytes.items fds.items) old a.number new
+Does (Receive bytes fds) a old new = By (Receiving bytes.items fds.items) old a.number new × By (Getting fds.items) old a.number new
 Does End a old new = By Ending old a.number new
-Does (ToSend p) a old new = By (Sending a.places.bytes.items a.places.fds.items (a.places.byte_count, a.places.fd_count)) old a.number new
+Does (ToSend p) a old new = By (Sending a.places.bytes.items a.places.fds.items (a.places.byte_count, a.places.fd_count)) old a.number new × By (λ s o s'. s'.held ≡ s.held) old a.number new
 Does (Next p) a old new = By (Beginning a.places.code) old a.number new
 Does (Read what p) a old new = ReadsTo what p a.places old a.number new
 Does (Reply r) a old new = RepliesBy r old a.number new
+Does (Claim fd) a old new = By (Claiming fd) old a.number new
+Does (Unclaimed p) a old new = By (LettingGo p.fds.items a.places.count a.places.fds.items) old a.number new
+Does Abandon a old new = By Abandoning old a.number new
 Does Close a old new = (a.number ≡ 0) × (new ≡ None)
 
 -- ---- what a call may answer
@@ -110,6 +113,9 @@ refusals (ToSend p) = number NoSession ∷ number NoRoom ∷ []
 refusals (Next p) = number NoSession ∷ number NotReplied ∷ number NotYet ∷ request_refusals
 refusals (Read what p) = read_refusals what
 refusals (Reply r) = reply_refusals r
+refusals (Claim fd) = number NoSession ∷ number OtherCall ∷ []
+refusals (Unclaimed p) = number NoSession ∷ []
+refusals Abandon = number NoSession ∷ []
 refusals Close = []
 
 -- ---- what a refusal leaves

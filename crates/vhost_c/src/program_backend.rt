@@ -2,7 +2,7 @@
 
 ghost use Rattle.std.specs.Prelude.{◌≡◌, ◌≢◌, ◌<◌, ◌+◌, true, All, None, IfOk, IfErr, length, vec_len, vec_capacity};
 ghost use Rattle.vhost_c_common.specs.ByNumber.{By};
-ghost use Rattle.vhost_c_backend.specs.Served.{Sending};
+ghost use Rattle.vhost_c_backend.specs.Served.{LettingGo, Sending};
 ghost use Rattle.vhost_c_backend.specs.Serving.{Beginning};
 ghost use Rattle.vhost_c.specs.Calls.{Appends, IsMade, Runs};
 ghost use Rattle.vhost_c.specs.ProgramBackend.{Does, IsCalled, IsSound, ReadsTo, RepliesBy, is_harmless};
@@ -12,6 +12,9 @@ use crate::backend_arguments::{
     covretin_call_log, covretin_call_name, covretin_call_number, covretin_call_other,
     covretin_call_regions, covretin_call_ring, covretin_call_ring_fd, covretin_call_transfer,
     covretin_call_vring,
+};
+use crate::backend_held::{
+    covretin_backend_abandon, covretin_backend_claim, covretin_backend_unclaimed,
 };
 use crate::backend_holder::BackendHolder;
 use crate::backend_moving::{
@@ -83,6 +86,10 @@ pub enum BackendCall {
     Read(BackendRead, Places),
     /// `covretin_reply_..`.
     Reply(BackendReply),
+    /// A descriptor.
+    Claim(i32),
+    Unclaimed(Places),
+    Abandon,
     Close,
 }
 
@@ -128,6 +135,9 @@ fn make(alloc: Global, backend: &mut BackendHolder, call: BackendCall) -> Progra
         BackendCall::Next(places) => next(alloc, backend, places),
         BackendCall::Read(what, places) => read(alloc, backend, what, places),
         BackendCall::Reply(reply) => bare(alloc, replied(alloc, backend, reply)),
+        BackendCall::Claim(fd) => bare(alloc, covretin_backend_claim(alloc, backend, fd)),
+        BackendCall::Unclaimed(places) => unclaimed(alloc, backend, places),
+        BackendCall::Abandon => bare(alloc, covretin_backend_abandon(alloc, backend)),
         BackendCall::Close => {
             covretin_backend_close(alloc, backend);
             bare(alloc, 0)
@@ -137,7 +147,8 @@ fn make(alloc: Global, backend: &mut BackendHolder, call: BackendCall) -> Progra
 
 /// Hands out a piece of what is to be sent.
 fn to_send(alloc: Global, backend: &mut BackendHolder, mut places: Places) -> ProgramAnswer
-    ensures { By (Sending result.places.bytes.items result.places.fds.items (result.places.byte_count, result.places.fd_count)) backend.old.session result.number backend.new.session }
+    ensures sent { By (Sending result.places.bytes.items result.places.fds.items (result.places.byte_count, result.places.fd_count)) backend.old.session result.number backend.new.session }
+    ensures held { By (λ s o s'. s'.held ≡ s.held) backend.old.session result.number backend.new.session }
 {
     let number = covretin_backend_to_send(
         alloc,
@@ -235,6 +246,14 @@ fn replied(alloc: Global, backend: &mut BackendHolder, reply: BackendReply) -> u
         BackendReply::Inflight(area, fd) => covretin_reply_inflight(alloc, backend, &area, fd),
         BackendReply::Shmem(sizes, count) => covretin_reply_shmem(alloc, backend, &sizes, count),
     }
+}
+
+/// Hands out descriptors that nobody will claim.
+fn unclaimed(alloc: Global, backend: &mut BackendHolder, mut places: Places) -> ProgramAnswer
+    ensures { By (LettingGo places.fds.items result.places.count result.places.fds.items) backend.old.session result.number backend.new.session }
+{
+    let number = covretin_backend_unclaimed(alloc, backend, &mut places.fds, &mut places.count);
+    ProgramAnswer { number, places }
 }
 
 /// A program makes any calls, where there is no session before. Each is answered by 0 or one of its refusals; and where each answer
