@@ -2,7 +2,7 @@
 use Rattle.std.proofs.Common.{◌≡◌, ◌<◌, ◌≤◌, ◌+◌, ◌⊎◌, inl, inr, ℕ, ℤ, Bool, true, false, ◌&&◌, List, [], ◌∷◌, length, replicate, Option, Some, None, Result, Ok, Err, refl, sym, ap, subst, ◌∙◌, arith}
 use Rattle.std.proofs.lemmas.List.{length-replicate}
 use Rattle.std.specs.Global.{Global}
-use Rattle.std.specs.Prelude.{Vec, ◌≢◌, ⊤, is_some, not, ◌==◌, ◌||◌, if◌then◌else◌, codes}
+use Rattle.std.specs.Prelude.{Vec, ⊤, is_some, not, ◌==◌, ◌||◌, if◌then◌else◌, codes}
 use Rattle.vhost_message.specs.Header.{Header, header_of, is_reply_for}
 use Rattle.vhost_message.specs.Records.{u64_at}
 use Rattle.vhost_message.specs.declared.error.Error as declared
@@ -38,7 +38,7 @@ use Rattle.vhost_c_common.specs.declared.incoming.Incoming.{Incoming}
 use Rattle.vhost_c_common.specs.declared.refusal.Refusal.{Refusal}
 use Rattle.vhost_c_common.specs.declared.refusal.Refusal.TheVariants as refusal
 use Rattle.vhost_c_channel.specs.Display as session
-use Rattle.vhost_c_channel.specs.Display.{Asking, Asks, Hears, Receiving, Refused, Sending, Settles, Stays, Takes, TakesRecord, TakesTo, Unasked, arrived, endpoint_of, error_in, mark_of, missing_for, missing_of, told, view}
+use Rattle.vhost_c_channel.specs.Display.{Asking, Asks, Hears, LettingGo, Receiving, Refused, Sending, Settles, Stays, Takes, TakesRecord, TakesTo, Unasked, arrived, endpoint_of, error_in, mark_of, missing_for, missing_of, told, view}
 use Rattle.vhost_c_channel.specs.DisplayRecords.{cursor_update_in}
 use Rattle.vhost_c_channel.specs.declared.display.Display.{Display}
 use Rattle.vhost_c_channel.specs.declared.display_records.CursorUpdate.{CursorUpdate}
@@ -50,7 +50,9 @@ use Rattle.vhost_c.specs.declared.places.ProgramAnswer.{ProgramAnswer}
 use Rattle.vhost_c.specs.declared.program_display.DisplayAsk.{DisplayAsk}
 use Rattle.vhost_c.specs.declared.program_display.DisplayAsk.TheVariants as ask
 use Rattle.vhost_c.specs.declared.program_display.DisplayCall.{DisplayCall}
-use Rattle.vhost_c.specs.declared.program_display.DisplayCall.TheVariants.{Open, Ask, ToSend, Missing, Receive, Take, TakeNumber, TakeDisplayInfo, TakeEdid, Close}
+use Rattle.vhost_c.specs.declared.program_display.DisplayCall.TheVariants.{Open, Ask, ToSend, Missing, Receive, Take, TakeNumber, TakeDisplayInfo, TakeEdid, Unclaimed, Close}
+use Rattle.vhost_c.proofs.Calling as calling
+use Rattle.vhost_c.proofs.Calling.{kept, on-held, promised}
 use Rattle.vhost_c.proofs.AskRefusals.{seen_number, is-seen}
 use Rattle.vhost_c.proofs.Refusing.{fails-sound, more-came, more-named, none-handed, none-taken, of-want, trouble-sound, trouble-uncut}
 use Rattle.vhost_c.proofs.ReplyRefusals.{cut-invalid, whole-reply}
@@ -71,23 +73,12 @@ abbrev pub Good : Option Display → Type 0
 Good None = ⊤
 Good (Some s) = IsGood s
 
--- What a call promises beside what it does, by its number.
-pub record Promises (call : DisplayCall) (n : ℕ) (old new : Option Display) : Type 0 where
-  pub named : is_named (refusals call) n ≡ true
-  pub leaves : n ≢ 0 → Leaves call n old new
-  pub sound : is_harmless n ≡ true → IsSound old → IsSound new
-  pub good : Good new
-
-promised : (call : DisplayCall) (n m : ℕ) (old new : Option Display) → n ≡ m → Promises call m old new → Promises call n old new
-promised call n m old new is p = subst (λ k. Promises call k old new) (sym is) p
+abbrev Promises : DisplayCall → ℕ → Option Display → Option Display → Type 0
+Promises = calling.Promises refusals Leaves is_harmless IsSound Good
 
 -- where there is no session
 absent : (call : DisplayCall) → is_named (refusals call) 101 ≡ true → Leaves call 101 None None → Promises call 101 None None
 absent call named leaves = record { named = named; leaves = λ refused. leaves; sound = λ harmless was. tt; good = tt }
-
--- where nothing changed
-kept : (call : DisplayCall) (n : ℕ) {old new : Option Display} → is_named (refusals call) n ≡ true → (new ≡ old → Leaves call n old new) → new ≡ old → Good old → Promises call n old new
-kept call n named leaves same good = record { named = named; leaves = λ refused. leaves same; sound = λ harmless was. subst IsSound (sym same) was; good = subst Good (sym same) good }
 
 -- a harmless answer is another
 other : (n : ℕ) → is_harmless n ≡ true → n ≡ 16 → ⊥
@@ -423,18 +414,30 @@ module _ {T : Type 0} (call : DisplayCall) (reply : GpuReply) (read : List ℕ �
   placed before after by.none good = absent call (gone call named leaves) none-left
   placed before after (by.some {s = s} {s' = t} {outcome = o} x) good = to-place before after s t o x good
 
+-- ---- descriptors
+
+-- nothing changed but which are held
+holds : (p : Places) (s t : Display) → t ≡ record s { held = t.held } → IsGood s → Promises (Unclaimed p) 0 (Some s) (Some t)
+holds p s t same good = record {
+  named = refl;
+  leaves = λ refused. absurd (refused refl);
+  sound = λ harmless was. ap {A = Display} (λ x. (endpoint_of x).broken) same ∙ was;
+  good = good-since s t (ap {A = Display} (λ x. (view x).rest) same) (ap {A = Display} (λ x. (view x).end) same) (λ waits. still-came s t (ap {A = Display} (λ x. arrived x) same) (ap {A = Display} (λ x. x.incoming) same) (good.came waits)) good;
+}
+
 -- ---- all calls
 
 promises : (call : DisplayCall) (a : ProgramAnswer) (old new : Option Display) → Does call a old new → Good old → Promises call a.number old new
 promises Open a old new does good = opens does good
 promises (Ask what) a old new does good = asks-to what a.number old new does good
-promises (ToSend p) a old new does good = sends p a.places.bytes.items a.places.fds.items (a.places.byte_count, a.places.fd_count) does good
+promises (ToSend p) a old new does good = sends p a.places.bytes.items a.places.fds.items (a.places.byte_count, a.places.fd_count) does.0 good
 promises (Missing p) a old new (is, missing, same) good = promised (Missing p) a.number 0 old new is (kept (Missing p) 0 refl (λ same. same) same good)
-promises (Receive bytes fds) a old new does good = receives bytes fds bytes.items fds.items does good
+promises (Receive bytes fds) a old new does good = receives bytes fds bytes.items fds.items does.0 good
 promises Take a old new does good = empty-taken does good
 promises (TakeNumber p) a old new does good = number-taken p p.number a.places.number does good
 promises (TakeDisplayInfo p) a old new does good = placed (TakeDisplayInfo p) TheDisplayInfo display_info_of display_info_text (λ n q. more-named n 107 taking q) (λ n o p l. l) refl refl refl _ _ does good
 promises (TakeEdid p) a old new does good = placed (TakeEdid p) TheEdid edid_of edid_text (λ n q. more-named n 107 taking q) (λ n o p l. l) refl refl refl _ _ does good
+promises (Unclaimed p) a old new does good = on-held Good (Promises (Unclaimed p)) (LettingGo p.fds.items a.places.count a.places.fds.items) (absent (Unclaimed p) refl refl) (λ s t u x. holds p s t x.1) (λ s t r x. absurd x) does good
 promises Close a old new (is, gone) good = promised Close a.number 0 old new is (record { named = refl; leaves = λ refused. absurd (refused refl); sound = λ harmless was. subst IsSound (sym gone) tt; good = subst Good (sym gone) tt })
 
 -- each call of a session that calls made is one that promises this, and leaves such a session

@@ -8,7 +8,7 @@ use Rattle.vhost_c_common.specs.ByNumber.{By}
 use Rattle.vhost_c_common.specs.Number.{number, error_number}
 use Rattle.vhost_c_common.specs.Records.{handle_in}
 use Rattle.vhost_c_common.specs.declared.refusal.Refusal.TheVariants.{NoSession, SessionOpen, NotTaken, NothingAsked, NotYet, TooManyBytes, NoRoom, OtherAnswer}
-use Rattle.vhost_c_channel.specs.Display.{Receiving, Sending, Settles, Stays, Takes, TakesTo, endpoint_of, view}
+use Rattle.vhost_c_channel.specs.Display.{Getting, LettingGo, Receiving, Sending, Settles, Stays, Takes, TakesTo, endpoint_of, view}
 use Rattle.vhost_c_channel.specs.DisplayRecords.{scanout_in, update_in, dmabuf_in, dmabuf2_in, cursor_pos_in, cursor_update_in}
 use Rattle.vhost_c_channel.specs.declared.display.Display.{Display}
 use Rattle.vhost_c.specs.Calls.{AtBoth, is_named, socket_broken, socket_retry}
@@ -18,7 +18,7 @@ use Rattle.vhost_c.specs.declared.places.ProgramAnswer.{ProgramAnswer}
 use Rattle.vhost_c.specs.declared.program_display.DisplayAsk.{DisplayAsk}
 use Rattle.vhost_c.specs.declared.program_display.DisplayAsk.TheVariants as ask
 use Rattle.vhost_c.specs.declared.program_display.DisplayCall.{DisplayCall}
-use Rattle.vhost_c.specs.declared.program_display.DisplayCall.TheVariants.{Open, Ask, ToSend, Missing, Receive, Take, TakeNumber, TakeDisplayInfo, TakeEdid, Close}
+use Rattle.vhost_c.specs.declared.program_display.DisplayCall.TheVariants.{Open, Ask, ToSend, Missing, Receive, Take, TakeNumber, TakeDisplayInfo, TakeEdid, Unclaimed, Close}
 
 -- What an ask does, whatever the pixels that its caller sends.
 abbrev pub AsksTo : DisplayAsk → Option Display → ℕ → Option Display → Type 0
@@ -39,13 +39,14 @@ AsksTo (ask.UpdateCursor update) old n new = (pixels : List ℕ) → length pixe
 abbrev pub Does : DisplayCall → ProgramAnswer → Option Display → Option Display → Type 0
 Does Open a old new = OpensDisplay old a.number new
 Does (Ask what) a old new = AsksTo what old a.number new
-Does (ToSend p) a old new = By (Sending a.places.bytes.items a.places.fds.items (a.places.byte_count, a.places.fd_count)) old a.number new
+Does (ToSend p) a old new = By (Sending a.places.bytes.items a.places.fds.items (a.places.byte_count, a.places.fd_count)) old a.number new × By (λ s o s'. s'.held ≡ s.held) old a.number new
 Does (Missing p) a old new = (a.number ≡ 0) × (a.places.count ≡ missing_at old) × (new ≡ old)
-Does (Receive bytes fds) a old new = By (Receiving bytes.items fds.items) old a.number new
+Does (Receive bytes fds) a old new = By (Receiving bytes.items fds.items) old a.number new × By (Getting fds.items) old a.number new
 Does Take a old new = By (λ s o s'. Takes s s' o) old a.number new
 Does (TakeNumber p) a old new = By (TakesNumber p.number a.places.number) old a.number new
 Does (TakeDisplayInfo p) a old new = By (λ s o s'. TakesTo TheDisplayInfo display_info_of display_info_text p.bytes.items a.places.bytes.items s s' o) old a.number new
 Does (TakeEdid p) a old new = By (λ s o s'. TakesTo TheEdid edid_of edid_text p.bytes.items a.places.bytes.items s s' o) old a.number new
+Does (Unclaimed p) a old new = By (LettingGo p.fds.items a.places.count a.places.fds.items) old a.number new
 Does Close a old new = (a.number ≡ 0) × (new ≡ None)
 
 -- ---- what a call may answer
@@ -74,6 +75,7 @@ refusals Take = taking
 refusals (TakeNumber p) = taking
 refusals (TakeDisplayInfo p) = number NoRoom ∷ taking
 refusals (TakeEdid p) = number NoRoom ∷ taking
+refusals (Unclaimed p) = number NoSession ∷ []
 refusals Close = []
 
 -- ---- what a refusal leaves

@@ -4,7 +4,7 @@ ghost use Rattle.std.specs.Prelude.{◌≡◌, ◌<◌, ◌+◌, true, All, None
 ghost use Rattle.vhost_gpu_message.specs.Replies.{display_info_of, display_info_text, edid_of, edid_text};
 ghost use Rattle.vhost_protocol.specs.Gpu.{TheDisplayInfo, TheEdid};
 ghost use Rattle.vhost_c_common.specs.ByNumber.{By};
-ghost use Rattle.vhost_c_channel.specs.Display.{Sending, TakesTo};
+ghost use Rattle.vhost_c_channel.specs.Display.{LettingGo, Sending, TakesTo};
 ghost use Rattle.vhost_c.specs.Calls.{Appends, IsMade, Runs};
 ghost use Rattle.vhost_c.specs.Display.{TakesNumber, missing_at};
 ghost use Rattle.vhost_c.specs.ProgramDisplay.{AsksTo, Does, IsCalled, IsSound, is_harmless};
@@ -20,6 +20,7 @@ use crate::display_asks::{
 use crate::display_holder::DisplayHolder;
 use crate::display_moving::{
     covretin_display_missing, covretin_display_receive, covretin_display_to_send,
+    covretin_display_unclaimed,
 };
 use crate::display_opening::{covretin_display_close, covretin_display_open};
 use crate::display_replies::{
@@ -63,6 +64,7 @@ pub enum DisplayCall {
     TakeNumber(Places),
     TakeDisplayInfo(Places),
     TakeEdid(Places),
+    Unclaimed(Places),
     Close,
 }
 
@@ -105,6 +107,7 @@ fn make(alloc: Global, display: &mut DisplayHolder, call: DisplayCall) -> Progra
         DisplayCall::TakeNumber(places) => take_number(alloc, display, places),
         DisplayCall::TakeDisplayInfo(places) => take_display_info(alloc, display, places),
         DisplayCall::TakeEdid(places) => take_edid(alloc, display, places),
+        DisplayCall::Unclaimed(places) => unclaimed(alloc, display, places),
         DisplayCall::Close => {
             covretin_display_close(alloc, display);
             bare(alloc, 0)
@@ -154,7 +157,8 @@ fn asked(alloc: Global, display: &mut DisplayHolder, what: DisplayAsk) -> u32
 
 /// Hands out a piece of what is to be sent.
 fn to_send(alloc: Global, display: &mut DisplayHolder, mut places: Places) -> ProgramAnswer
-    ensures { By (Sending result.places.bytes.items result.places.fds.items (result.places.byte_count, result.places.fd_count)) display.old.session result.number display.new.session }
+    ensures sent { By (Sending result.places.bytes.items result.places.fds.items (result.places.byte_count, result.places.fd_count)) display.old.session result.number display.new.session }
+    ensures held { By (λ s o s'. s'.held ≡ s.held) display.old.session result.number display.new.session }
 {
     let number = covretin_display_to_send(
         alloc,
@@ -202,6 +206,14 @@ fn take_edid(alloc: Global, display: &mut DisplayHolder, mut places: Places) -> 
     ensures { By (λ s o s'. TakesTo TheEdid edid_of edid_text places.bytes.items result.places.bytes.items s s' o) display.old.session result.number display.new.session }
 {
     let number = covretin_display_take_edid(alloc, display, &mut places.bytes);
+    ProgramAnswer { number, places }
+}
+
+/// Hands out descriptors that came.
+fn unclaimed(alloc: Global, display: &mut DisplayHolder, mut places: Places) -> ProgramAnswer
+    ensures { By (LettingGo places.fds.items result.places.count result.places.fds.items) display.old.session result.number display.new.session }
+{
+    let number = covretin_display_unclaimed(alloc, display, &mut places.fds, &mut places.count);
     ProgramAnswer { number, places }
 }
 
