@@ -178,6 +178,10 @@ pub over-right : (bit : Bool) (es : List Exchange) (i : ℕ) → length es ≤ i
 over-right bit es i all f' b' judge at = ends-right bit f' b' judge (subst (λ xs. IsAt bit xs f' b' judge) (drop_all i es all) at)
 
 -- memory was refused
+pub any-halt : (b old new : Served) (h : Halt) → FindsRight b (Err h) old → FindsRight b (Err h) new
+any-halt b old new (halt.WantsMemory why) x = x
+any-halt b old new h x = x
+
 pub same-halt : (b b' new : Served) (h : Halt) → FindsRight b (Err h) new → FindsRight b' (Err h) new
 same-halt b b' new (halt.WantsMemory why) wants = wants
 same-halt b b' new _ none = none

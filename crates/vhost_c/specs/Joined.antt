@@ -1,5 +1,5 @@
 -- A frontend's session and a backend's, joined: what the one hands out the other receives, in any pieces, and a device answers.
-use Rattle.std.specs.Prelude.{◌≡◌, ℕ, All, Bool, true, false, List, [], ◌∷◌, ◌++◌, map, Some, None, Result, Ok, Err, ⊤, is_some}
+use Rattle.std.specs.Prelude.{◌≡◌, ◌⊎◌, ℕ, All, Bool, true, false, List, [], ◌∷◌, ◌++◌, map, Some, None, Result, Ok, Err, ⊤, is_some}
 use Rattle.vhost_message.specs.Bits.{has_bit}
 use Rattle.vhost_message.specs.declared.frontend_req.FrontendReq.{FrontendReq}
 use Rattle.vhost_protocol.specs.Agreement.{Negotiates}
@@ -158,3 +158,22 @@ pub record JoinsNew (bit : Bool) (max_queue_num : ℕ) (steps : List (FrontendCa
   pub back : Served
   pub fresh : session.IsNew max_queue_num front × served.IsNew back
   pub lockstep : InLockstep bit steps front back f' b'
+
+-- memory was refused, where nothing else can be
+abbrev pub NoMemory : Halt → Type 0
+NoMemory (halt.WantsMemory why) = is_want why ≡ true
+NoMemory h = ⊥
+
+-- Two new sessions were joined, and the calls before one that was not done.
+pub record HaltsNew (bit : Bool) (max_queue_num : ℕ) (steps : List (FrontendCall PlainHandle × Reply)) (h : Halt) : Type 0 where
+  pub front : Session
+  pub back : Served
+  pub fresh : session.IsNew max_queue_num front × served.IsNew back
+  pub last_front : Session
+  pub last_back : Served
+  pub halts : UpTo bit steps front back h last_front last_back
+
+-- what becomes of new sessions, where both could be opened
+abbrev pub OpensAndJoins : Bool → ℕ → List (FrontendCall PlainHandle × Reply) → Result (Session × Served) Halt → Type 0
+OpensAndJoins bit max_queue_num steps (Ok s) = JoinsNew bit max_queue_num steps s.0 s.1
+OpensAndJoins bit max_queue_num steps (Err h) = NoMemory h ⊎ HaltsNew bit max_queue_num steps h

@@ -207,9 +207,13 @@ JudgesAll es old result new = (bit : Bool) (steps : List (FrontendCall PlainHand
 abbrev pub JudgesOne : Exchange → Served → Result Bool Halt → Served → Type 0
 JudgesOne e old result new = (bit : Bool) (call : FrontendCall PlainHandle) (r : Reply) (f f' : Session) (b b' : Served) → AreInStep bit f b → IsProper call → HasFds call → IsSized r → IsSeen bit call r e f b f' b' → IsReady old → served.remembers old ≡ served.remembers b → FindsRight b' result new
 
--- and of a new judge, and new sessions
-abbrev pub JudgesNew : List Exchange → Bool → Served → Type 0
-JudgesNew es same new = (bit : Bool) (max_queue_num : ℕ) (steps : List (FrontendCall PlainHandle × Reply)) (f f' : Session) (b b' : Served) → session.IsNew max_queue_num f → served.IsNew b → AreAllowed bit steps → AreSeen bit steps es f b f' b' → FindsRight b' (Ok same) new
+-- and of a new judge, where one was opened, and new sessions
+abbrev pub FindsNew : Served → Result (Bool × Served) Halt → Type 0
+FindsNew b (Ok r) = FindsRight b (Ok r.0) r.1
+FindsNew b (Err h) = FindsRight b (Err h) b
+
+abbrev pub JudgesNew : List Exchange → Result (Bool × Served) Halt → Type 0
+JudgesNew es result = (bit : Bool) (max_queue_num : ℕ) (steps : List (FrontendCall PlainHandle × Reply)) (f f' : Session) (b b' : Served) → session.IsNew max_queue_num f → served.IsNew b → AreAllowed bit steps → AreSeen bit steps es f b f' b' → FindsNew b' result
 
 -- ---- its halves
 

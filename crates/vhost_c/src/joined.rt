@@ -1,12 +1,12 @@
 //! A frontend's session and a backend's, joined: worked consequences of their contracts alone.
 
-ghost use Rattle.std.specs.Prelude.{◌≡◌, ℕ, Bool, true, false, IfOk};
+ghost use Rattle.std.specs.Prelude.{◌≡◌, ℕ, Bool, true, false};
 ghost use Rattle.vhost_protocol.specs.FrontendCall.{SetHdrFlags};
 ghost use Rattle.vhost_frontend_core.specs.Values.{call_of};
 ghost use Rattle.vhost_frontend_core.specs.ValueHalves.{IsSent};
 ghost use Rattle.vhost_c_backend.specs.Serving.{Request};
 ghost use Rattle.vhost_c.specs.Device.{IsSized, IsDue, IsOpen, Serves, halted, is_want};
-ghost use Rattle.vhost_c.specs.Joined.{AreAllowed, AreInStep, HasFds, IsPlain, Offers, Joins, JoinsAll, JoinsNew, steps_of};
+ghost use Rattle.vhost_c.specs.Joined.{AreAllowed, AreInStep, HasFds, IsPlain, Offers, Joins, JoinsAll, OpensAndJoins, steps_of};
 ghost use Rattle.vhost_c_backend.specs.Served.{remembers};
 
 use crate::session::Session;
@@ -129,7 +129,7 @@ pub fn joined_run(
     replies: &[Reply<'_>],
     cuts: &[usize],
 ) -> Result<(Session, Served), Halt>
-    ensures { (bit : Bool) → AreAllowed bit (steps_of calls.old.items replies.now) → IfOk result (λ s. JoinsNew bit max_queue_num (steps_of calls.old.items replies.now) s.0 s.1) }
+    ensures { (bit : Bool) → AreAllowed bit (steps_of calls.old.items replies.now) → OpensAndJoins bit max_queue_num (steps_of calls.old.items replies.now) result }
 {
     let mut front = match Session::new(alloc, max_queue_num) {
         Ok(session) => session,

@@ -1,7 +1,7 @@
 //! A session that judges what goes between a frontend and a backend: it is given each request, is answered as the reply says, and
 //! what it writes is compared with that.
 
-ghost use Rattle.std.specs.Prelude.{◌≡◌, ◌≢◌, ◌≤◌, ◌+◌, [], true, false, IfOk, length, take, drop};
+ghost use Rattle.std.specs.Prelude.{◌≡◌, ◌≢◌, ◌≤◌, ◌+◌, [], true, false, length, take, drop};
 ghost use Rattle.vhost_message.specs.declared.limits.TheConstants.{MAX_MEM_REGIONS};
 ghost use Rattle.vhost_c_common.specs.Records.{inflight_in};
 ghost use Rattle.vhost_c_backend.specs.Serving.{Request};
@@ -58,7 +58,7 @@ pub(crate) enum Kind {
 ///
 /// WantsMemory: an allocation failed. Silent: bytes are missing of a request.
 pub fn judged_run(alloc: Global, exchanges: &[Exchange<'_>]) -> Result<(bool, Served), Halt>
-    ensures { IfOk result (λ r. JudgesNew exchanges.now r.0 r.1) }
+    ensures { JudgesNew exchanges.now result }
 {
     let mut judge = match Served::new(alloc) {
         Ok(session) => session,
