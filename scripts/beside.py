@@ -30,7 +30,7 @@ def seconds(words):
 
 
 def main():
-    if len(sys.argv) not in (3, 4) or not sys.argv[3:] in ([], [sys.argv[-1]]) or (sys.argv[3:] and not sys.argv[3].isdigit()):
+    if len(sys.argv) not in (3, 4) or any(not it.isdigit() or int(it) == 0 for it in sys.argv[3:]):
         print(__doc__.strip(), file=sys.stderr)
         sys.exit(2)
     bench, beside = sys.argv[1:3]

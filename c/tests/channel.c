@@ -372,6 +372,22 @@ static void device_ends(void)
     }
 }
 
+/* A call that is never replied to, and whose descriptor nobody claimed. */
+static void hangs_up_amid_a_call(void)
+{
+    int peer = served();
+    file = file_of("sent");
+    size_t before = open_fds();
+    say_header(peer, LOOKUP, NEED_REPLY, sizeof name, &file, 1);
+    say(peer, name, sizeof name, NULL, 0);
+    EXPECT(COVRETIN_OK, covretin_channel_next_call(&device, &call, LIMIT));
+    EXPECT(before + 1, open_fds());
+    covretin_channel_hang_up(&device);
+    EXPECT(before - 1, open_fds()); /* (its socket is closed, too) */
+    close(file);
+    close(peer);
+}
+
 /* A request and a reply of a byte at a time, and one whose descriptor comes amid it. */
 static void byte_by_byte(void)
 {
@@ -420,6 +436,7 @@ int main(void)
     RUN(frontend_ends);
     RUN(refuses_requests);
     RUN(device_ends);
+    RUN(hangs_up_amid_a_call);
     RUN(byte_by_byte);
     RUN(request_texts);
     return status();

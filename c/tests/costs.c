@@ -90,10 +90,17 @@ static enum covretin_error take(const struct call *call)
     return call->taken != NULL ? call->taken() : sides->asking.take(sides->asker);
 }
 
-/* What is done within is counted. */
-static __attribute__((noinline)) enum covretin_error counted(enum covretin_error (*part)(const struct call *call), const struct call *call)
+typedef enum covretin_error part_of(const struct call *call);
+
+/* What is done within is counted: so it is a function by itself, also where its argument is known. */
+static __attribute__((noinline, noclone)) enum covretin_error counted(part_of *part, const struct call *call)
 {
     return part(call);
+}
+
+static void do_part(part_of *part, const struct call *call, bool is_counted)
+{
+    check(call, is_counted ? counted(part, call) : part(call));
 }
 
 /* Lets a session hand out what nobody claims. */
@@ -110,19 +117,18 @@ static void forget(const struct transport_side *side, void *session)
 /* Makes a call. Only the third time is counted, when nothing is grown any more. */
 static void make(const struct call *call, bool is_counted)
 {
-    enum covretin_error (*by)(enum covretin_error (*part)(const struct call *call), const struct call *call) = counted;
     if (is_counted) {
         printf("%s\t%s\n", sides->asks, call->name);
         if (sides->next != NULL)
             printf("%s\t%s\n", sides->serves, call->name);
         printf("%s\t%s\n", sides->asks, call->name);
     }
-    check(call, is_counted ? by(ask, call) : ask(call));
+    do_part(ask, call, is_counted);
     if (sides->next != NULL)
-        check(call, is_counted ? by(serve, call) : serve(call));
+        do_part(serve, call, is_counted);
     else
         check(call, call->answered());
-    check(call, is_counted ? by(take, call) : take(call));
+    do_part(take, call, is_counted);
     forget(&sides->asking, sides->asker);
     if (sides->next != NULL)
         forget(&sides->serving, sides->server);
@@ -246,7 +252,7 @@ static void count_both(int turn)
 
 /* -- The backend channel -- */
 
-static const covretin_mmap part = {.len = 4096, .flags = 1};
+static const covretin_mmap a_range = {.len = 4096, .flags = 1};
 static covretin_mmap a_part;
 
 #define REPLIES_0 covretin_channel_reply_number(&server, 0)
@@ -256,8 +262,8 @@ static covretin_mmap a_part;
     X(shared_object_add, covretin_channel_ask_shared_object_add(&channel, name, 16), SEES_NAME) \
     X(shared_object_remove, covretin_channel_ask_shared_object_remove(&channel, name, 16), SEES_NAME) \
     X(shared_object_lookup, covretin_channel_ask_shared_object_lookup(&channel, name, 16, FD), SEES_NAME) \
-    X(shmem_map, covretin_channel_ask_shmem_map(&channel, &part, FD), (covretin_channel_call_mmap(&server, &a_part), REPLIES_0)) \
-    X(shmem_unmap, covretin_channel_ask_shmem_unmap(&channel, &part), (covretin_channel_call_mmap(&server, &a_part), REPLIES_0))
+    X(shmem_map, covretin_channel_ask_shmem_map(&channel, &a_range, FD), (covretin_channel_call_mmap(&server, &a_part), REPLIES_0)) \
+    X(shmem_unmap, covretin_channel_ask_shmem_unmap(&channel, &a_range), (covretin_channel_call_mmap(&server, &a_part), REPLIES_0))
 
 CHANNEL_CALLS(DEFINE)
 static const struct call channel_calls[] = {CHANNEL_CALLS(ROW)};
