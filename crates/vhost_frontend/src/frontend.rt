@@ -6,7 +6,7 @@ ghost use Rattle.vhost_message.specs.Transfer.{direction_number, phase_number};
 ghost use Rattle.vhost_message.specs.declared.error.Error.TheVariants.{OutOfMemory};
 ghost use Rattle.vhost_protocol.specs.FrontendCall as call;
 ghost use Rattle.vhost_frontend_core.specs.Regions.{bases_seen, info_in, infos_in, log_region_in};
-ghost use Rattle.vhost_frontend.specs.Turn.{Turn, within as answer_within};
+ghost use Rattle.vhost_frontend.specs.Turn.{Turn};
 ghost use Rattle.vhost_frontend.specs.Whole.{Whole, WholeWithRoom};
 
 use crate::held::Held;
@@ -31,7 +31,7 @@ use vhost_message::{
 /// Mirrors `vhost::vhost_user::Frontend`.
 #[derive(Drop)]
 pub struct Frontend<L: Link> {
-    inner: Arc<Mutex<Held<L>>, Global>,
+    pub(crate) inner: Arc<Mutex<Held<L>>, Global>,
 }
 
 impl<L: Link> Clone for Frontend<L> {
@@ -79,45 +79,38 @@ impl<L: Link> Frontend<L> {
 
     /// Sets where a packed ring goes on: both its indices with their wrap counters, in 32 bits as the specification has them.
     /// The errors are those of `set_vring_base`.
-    #[tactic(auto, using(crate::proofs::Turns::turned, crate::proofs::Turns::turned_with_room))]
     pub fn set_packed_vring_base(&self, rt: &impl Wait, queue_index: usize, base: u32) -> Result<()>
         ensures { Turn L.event (Whole L.event (call.SetVringBase queue_index base) (λ _. call.Nothing)) result }
     {
-        within(
-            self.inner
-                .lock(rt)
-                .quiet
-                .done(&Call::SetVringBase(queue_index, base)),
-        )
+        self.done(rt, &Call::SetVringBase(queue_index, base))
     }
 }
 
-#[tactic(auto, using(crate::proofs::Turns::turned, crate::proofs::Turns::turned_with_room))]
 impl<L: Link> VhostBackend for Frontend<L> {
     type Handle = L::Handle;
 
     fn get_features(&self, rt: &impl Wait) -> Result<u64>
         ensures { Turn L.event (Whole L.event call.GetFeatures call.Number) result }
     {
-        within(self.inner.lock(rt).quiet.number(&Call::GetFeatures))
+        self.number(rt, &Call::GetFeatures)
     }
 
     fn set_features(&self, rt: &impl Wait, features: u64) -> Result<()>
         ensures { Turn L.event (Whole L.event (call.SetFeatures features) (λ _. call.Nothing)) result }
     {
-        within(self.inner.lock(rt).quiet.done(&Call::SetFeatures(features)))
+        self.done(rt, &Call::SetFeatures(features))
     }
 
     fn set_owner(&self, rt: &impl Wait) -> Result<()>
         ensures { Turn L.event (Whole L.event call.SetOwner (λ _. call.Nothing)) result }
     {
-        within(self.inner.lock(rt).quiet.done(&Call::SetOwner))
+        self.done(rt, &Call::SetOwner)
     }
 
     fn reset_owner(&self, rt: &impl Wait) -> Result<()>
         ensures { Turn L.event (Whole L.event call.ResetOwner (λ _. call.Nothing)) result }
     {
-        within(self.inner.lock(rt).quiet.done(&Call::ResetOwner))
+        self.done(rt, &Call::ResetOwner)
     }
 
     fn set_mem_table(
@@ -128,7 +121,7 @@ impl<L: Link> VhostBackend for Frontend<L> {
         ensures { Turn L.event (WholeWithRoom L.event (call.SetMemTable (infos_in regions.now)) (λ bases. call.Bases (bases_seen bases))) result }
     {
         let call = Call::SetMemTable(Regions::Lent(regions));
-        within(self.inner.lock(rt).quiet.bases(&call))
+        self.bases(rt, &call)
     }
 
     fn set_log_base(
@@ -139,29 +132,19 @@ impl<L: Link> VhostBackend for Frontend<L> {
     ) -> Result<()>
         ensures { Turn L.event (Whole L.event (call.SetLogBase base (log_region_in region.entry)) (λ _. call.Nothing)) result }
     {
-        within(
-            self.inner
-                .lock(rt)
-                .quiet
-                .done(&Call::SetLogBase(base, region)),
-        )
+        self.done(rt, &Call::SetLogBase(base, region))
     }
 
     fn set_log_fd(&self, rt: &impl Wait, fd: &L::Handle) -> Result<()>
         ensures { Turn L.event (Whole L.event (call.SetLogFd fd.now) (λ _. call.Nothing)) result }
     {
-        within(self.inner.lock(rt).quiet.done(&Call::SetLogFd(fd)))
+        self.done(rt, &Call::SetLogFd(fd))
     }
 
     fn set_vring_num(&self, rt: &impl Wait, queue_index: usize, num: u16) -> Result<()>
         ensures { Turn L.event (Whole L.event (call.SetVringNum queue_index num) (λ _. call.Nothing)) result }
     {
-        within(
-            self.inner
-                .lock(rt)
-                .quiet
-                .done(&Call::SetVringNum(queue_index, num)),
-        )
+        self.done(rt, &Call::SetVringNum(queue_index, num))
     }
 
     fn set_vring_addr(
@@ -172,81 +155,45 @@ impl<L: Link> VhostBackend for Frontend<L> {
     ) -> Result<()>
         ensures { Turn L.event (Whole L.event (call.SetVringAddr queue_index config_data.now) (λ _. call.Nothing)) result }
     {
-        within(
-            self.inner
-                .lock(rt)
-                .quiet
-                .done(&Call::SetVringAddr(queue_index, *config_data)),
-        )
+        self.done(rt, &Call::SetVringAddr(queue_index, *config_data))
     }
 
     fn set_vring_base(&self, rt: &impl Wait, queue_index: usize, base: u16) -> Result<()>
         ensures { Turn L.event (Whole L.event (call.SetVringBase queue_index base) (λ _. call.Nothing)) result }
     {
-        within(
-            self.inner
-                .lock(rt)
-                .quiet
-                .done(&Call::SetVringBase(queue_index, base as u32)),
-        )
+        self.done(rt, &Call::SetVringBase(queue_index, base as u32))
     }
 
     fn get_vring_base(&self, rt: &impl Wait, queue_index: usize) -> Result<u32>
         ensures { Turn L.event (Whole L.event (call.GetVringBase queue_index) call.Number) result }
     {
-        within(
-            self.inner
-                .lock(rt)
-                .quiet
-                .ring_index(&Call::GetVringBase(queue_index)),
-        )
+        self.ring_index(rt, &Call::GetVringBase(queue_index))
     }
 
     fn set_vring_call(&self, rt: &impl Wait, queue_index: usize, fd: &L::Handle) -> Result<()>
         ensures { Turn L.event (Whole L.event (call.SetVringCall queue_index (Some fd.now)) (λ _. call.Nothing)) result }
     {
-        within(
-            self.inner
-                .lock(rt)
-                .quiet
-                .done(&Call::SetVringCall(queue_index, Some(fd))),
-        )
+        self.done(rt, &Call::SetVringCall(queue_index, Some(fd)))
     }
 
     fn set_vring_kick(&self, rt: &impl Wait, queue_index: usize, fd: &L::Handle) -> Result<()>
         ensures { Turn L.event (Whole L.event (call.SetVringKick queue_index (Some fd.now)) (λ _. call.Nothing)) result }
     {
-        within(
-            self.inner
-                .lock(rt)
-                .quiet
-                .done(&Call::SetVringKick(queue_index, Some(fd))),
-        )
+        self.done(rt, &Call::SetVringKick(queue_index, Some(fd)))
     }
 
     fn set_vring_err(&self, rt: &impl Wait, queue_index: usize, fd: &L::Handle) -> Result<()>
         ensures { Turn L.event (Whole L.event (call.SetVringErr queue_index (Some fd.now)) (λ _. call.Nothing)) result }
     {
-        within(
-            self.inner
-                .lock(rt)
-                .quiet
-                .done(&Call::SetVringErr(queue_index, Some(fd))),
-        )
+        self.done(rt, &Call::SetVringErr(queue_index, Some(fd)))
     }
 }
 
-#[tactic(auto, using(crate::proofs::Turns::turned, crate::proofs::Turns::turned_with_room))]
 impl<L: Link> VhostUserFrontend for Frontend<L> {
     fn get_protocol_features(&mut self, rt: &impl Wait) -> Result<VhostUserProtocolFeatures>
         ensures { Turn L.event (Whole L.event call.GetProtocolFeatures (λ features. call.Number features.bits)) result }
     {
-        within(
-            self.inner
-                .lock(rt)
-                .quiet
-                .features(&Call::GetProtocolFeatures),
-        )
+        self.features(rt, &Call::GetProtocolFeatures)
     }
 
     fn set_protocol_features(
@@ -256,35 +203,25 @@ impl<L: Link> VhostUserFrontend for Frontend<L> {
     ) -> Result<()>
         ensures { Turn L.event (Whole L.event (call.SetProtocolFeatures features.bits) (λ _. call.Nothing)) result }
     {
-        within(
-            self.inner
-                .lock(rt)
-                .quiet
-                .done(&Call::SetProtocolFeatures(features)),
-        )
+        self.done(rt, &Call::SetProtocolFeatures(features))
     }
 
     fn get_queue_num(&mut self, rt: &impl Wait) -> Result<u64>
         ensures { Turn L.event (Whole L.event call.GetQueueNum call.Number) result }
     {
-        within(self.inner.lock(rt).quiet.number(&Call::GetQueueNum))
+        self.number(rt, &Call::GetQueueNum)
     }
 
     fn reset_device(&mut self, rt: &impl Wait) -> Result<()>
         ensures { Turn L.event (Whole L.event call.ResetDevice (λ _. call.Nothing)) result }
     {
-        within(self.inner.lock(rt).quiet.done(&Call::ResetDevice))
+        self.done(rt, &Call::ResetDevice)
     }
 
     fn set_vring_enable(&mut self, rt: &impl Wait, queue_index: usize, enable: bool) -> Result<()>
         ensures { Turn L.event (Whole L.event (call.SetVringEnable queue_index enable) (λ _. call.Nothing)) result }
     {
-        within(
-            self.inner
-                .lock(rt)
-                .quiet
-                .done(&Call::SetVringEnable(queue_index, enable)),
-        )
+        self.done(rt, &Call::SetVringEnable(queue_index, enable))
     }
 
     fn get_config(
@@ -297,12 +234,7 @@ impl<L: Link> VhostUserFrontend for Frontend<L> {
     ) -> Result<(VhostUserConfig, Vec<u8>)>
         ensures { Turn L.event (WholeWithRoom L.event (call.GetConfig offset size (config_bits flags) buf.now) (λ part. call.ConfigOf part.0 part.1.items)) result }
     {
-        within(
-            self.inner
-                .lock(rt)
-                .quiet
-                .config(&Call::GetConfig(offset, size, flags, buf)),
-        )
+        self.config(rt, &Call::GetConfig(offset, size, flags, buf))
     }
 
     fn set_config(
@@ -314,23 +246,13 @@ impl<L: Link> VhostUserFrontend for Frontend<L> {
     ) -> Result<()>
         ensures { Turn L.event (Whole L.event (call.SetConfig offset (config_bits flags) buf.now) (λ _. call.Nothing)) result }
     {
-        within(
-            self.inner
-                .lock(rt)
-                .quiet
-                .done(&Call::SetConfig(offset, flags, buf)),
-        )
+        self.done(rt, &Call::SetConfig(offset, flags, buf))
     }
 
     fn set_backend_request_fd(&mut self, rt: &impl Wait, fd: &L::Handle) -> Result<()>
         ensures { Turn L.event (Whole L.event (call.SetBackendRequestFd fd.now) (λ _. call.Nothing)) result }
     {
-        within(
-            self.inner
-                .lock(rt)
-                .quiet
-                .done(&Call::SetBackendRequestFd(fd)),
-        )
+        self.done(rt, &Call::SetBackendRequestFd(fd))
     }
 
     fn get_shared_object(
@@ -340,12 +262,7 @@ impl<L: Link> VhostUserFrontend for Frontend<L> {
     ) -> Result<L::Handle>
         ensures { Turn L.event (Whole L.event (call.GetSharedObject shared_msg.now) call.HandleOf) result }
     {
-        within(
-            self.inner
-                .lock(rt)
-                .quiet
-                .handle(&Call::GetSharedObject(*shared_msg)),
-        )
+        self.handle(rt, &Call::GetSharedObject(*shared_msg))
     }
 
     fn get_inflight_fd(
@@ -355,12 +272,7 @@ impl<L: Link> VhostUserFrontend for Frontend<L> {
     ) -> Result<(VhostUserInflight, L::Handle)>
         ensures { Turn L.event (Whole L.event (call.GetInflightFd inflight.now) (λ buffer. call.InflightOf buffer.0 buffer.1)) result }
     {
-        within(
-            self.inner
-                .lock(rt)
-                .quiet
-                .inflight(&Call::GetInflightFd(*inflight)),
-        )
+        self.inflight(rt, &Call::GetInflightFd(*inflight))
     }
 
     fn set_inflight_fd(
@@ -371,18 +283,13 @@ impl<L: Link> VhostUserFrontend for Frontend<L> {
     ) -> Result<()>
         ensures { Turn L.event (Whole L.event (call.SetInflightFd inflight.now fd.now) (λ _. call.Nothing)) result }
     {
-        within(
-            self.inner
-                .lock(rt)
-                .quiet
-                .done(&Call::SetInflightFd(*inflight, fd)),
-        )
+        self.done(rt, &Call::SetInflightFd(*inflight, fd))
     }
 
     fn get_max_mem_slots(&mut self, rt: &impl Wait) -> Result<u64>
         ensures { Turn L.event (Whole L.event call.GetMaxMemSlots call.Number) result }
     {
-        within(self.inner.lock(rt).quiet.number(&Call::GetMaxMemSlots))
+        self.number(rt, &Call::GetMaxMemSlots)
     }
 
     fn add_mem_region(
@@ -392,7 +299,7 @@ impl<L: Link> VhostUserFrontend for Frontend<L> {
     ) -> Result<Option<u64>>
         ensures { Turn L.event (Whole L.event (call.AddMemRegion (info_in region.now)) call.Base) result }
     {
-        within(self.inner.lock(rt).quiet.base(&Call::AddMemRegion(*region)))
+        self.base(rt, &Call::AddMemRegion(*region))
     }
 
     fn remove_mem_region(
@@ -402,18 +309,13 @@ impl<L: Link> VhostUserFrontend for Frontend<L> {
     ) -> Result<()>
         ensures { Turn L.event (Whole L.event (call.RemoveMemRegion (info_in region.now)) (λ _. call.Nothing)) result }
     {
-        within(
-            self.inner
-                .lock(rt)
-                .quiet
-                .done(&Call::RemoveMemRegion(*region)),
-        )
+        self.done(rt, &Call::RemoveMemRegion(*region))
     }
 
     fn get_shmem_config(&mut self, rt: &impl Wait) -> Result<VhostUserShMemConfig>
         ensures { Turn L.event (Whole L.event call.GetShmemConfig call.ShmemOf) result }
     {
-        within(self.inner.lock(rt).quiet.get_shmem_config())
+        self.shmem_config(rt)
     }
 
     fn set_device_state_fd(
@@ -425,62 +327,42 @@ impl<L: Link> VhostUserFrontend for Frontend<L> {
     ) -> Result<Option<L::Handle>>
         ensures { Turn L.event (Whole L.event (call.SetDeviceStateFd (record { direction = direction_number direction; phase = phase_number phase }) fd) call.StateHandle) result }
     {
-        within(
-            self.inner
-                .lock(rt)
-                .quiet
-                .state_handle(&Call::SetDeviceStateFd(direction, phase, &fd)),
-        )
+        self.state_handle(rt, &Call::SetDeviceStateFd(direction, phase, &fd))
     }
 
     fn check_device_state(&self, rt: &impl Wait) -> Result<()>
         ensures { Turn L.event (Whole L.event call.CheckDeviceState (λ _. call.Nothing)) result }
     {
-        within(self.inner.lock(rt).quiet.done(&Call::CheckDeviceState))
+        self.done(rt, &Call::CheckDeviceState)
     }
 
     fn postcopy_advise(&mut self, rt: &impl Wait) -> Result<L::Handle>
         ensures { Turn L.event (Whole L.event call.PostcopyAdvise call.HandleOf) result }
     {
-        within(self.inner.lock(rt).quiet.handle(&Call::PostcopyAdvise))
+        self.handle(rt, &Call::PostcopyAdvise)
     }
 
     fn postcopy_listen(&mut self, rt: &impl Wait) -> Result<()>
         ensures { Turn L.event (Whole L.event call.PostcopyListen (λ _. call.Nothing)) result }
     {
-        within(self.inner.lock(rt).quiet.done(&Call::PostcopyListen))
+        self.done(rt, &Call::PostcopyListen)
     }
 
     fn postcopy_end(&mut self, rt: &impl Wait) -> Result<()>
         ensures { Turn L.event (Whole L.event call.PostcopyEnd (λ _. call.Nothing)) result }
     {
-        within(self.inner.lock(rt).quiet.done(&Call::PostcopyEnd))
+        self.done(rt, &Call::PostcopyEnd)
     }
 
     fn postcopy_ack_mem_regions(&mut self, rt: &impl Wait, code: FrontendReq) -> Result<()>
         ensures { Turn L.event (Whole L.event (call.PostcopyAckMemRegions code) (λ _. call.Nothing)) result }
     {
-        within(
-            self.inner
-                .lock(rt)
-                .quiet
-                .done(&Call::PostcopyAckMemRegions(code)),
-        )
+        self.done(rt, &Call::PostcopyAckMemRegions(code))
     }
 
     fn set_mtu(&mut self, rt: &impl Wait, mtu: u16) -> Result<()>
         ensures { Turn L.event (Whole L.event (call.SetMtu mtu) (λ _. call.Nothing)) result }
     {
-        within(self.inner.lock(rt).quiet.done(&Call::SetMtu(mtu)))
-    }
-}
-
-/// What the protocol answered, as the answer of a vhost backend.
-fn within<A: Drop>(answer: vhost_message::Result<A>) -> Result<A>
-    ensures { result ≡ answer_within answer }
-{
-    match answer {
-        Ok(answer) => Ok(answer),
-        Err(error) => Err(error.into()),
+        self.done(rt, &Call::SetMtu(mtu))
     }
 }

@@ -6,6 +6,7 @@ mod frontend;
 mod held;
 mod memory_context;
 mod quiet;
+mod sharing;
 mod traits;
 
 pub use frontend::Frontend;
