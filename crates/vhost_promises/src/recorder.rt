@@ -4,6 +4,7 @@ ghost use Rattle.std.specs.Prelude.{◌≡◌, ◌≢◌, [], IfOk, IfSome, None
 ghost use Rattle.vhost_frontend_core.specs.Values.{call_of, answer_of};
 ghost use Rattle.vhost_pair.specs.declared.halt.Stop.TheVariants.{Premise};
 ghost use Rattle.vhost_promises.specs.Recorder.{RecordsTwo, Begins};
+ghost use Rattle.vhost_recorder.specs.Share.{parts_of, count_of};
 ghost use Rattle.vhost_protocol.specs.FrontendCall.{GetFeatures, SetOwner, Number};
 
 use crate::example::Device;
@@ -15,7 +16,7 @@ use vhost_device::VhostUserBackendReqHandlerMut;
 use vhost_dummy_backend::DummyBackendReqHandler;
 use vhost_frontend_core::{FrontendAnswer, FrontendCall};
 use vhost_link::MemLink;
-use vhost_recorder::{Halt, Log, Receipt, Recorded, Recorder};
+use vhost_recorder::{Halt, Log, Receipt, Recorded, Recorder, Share};
 
 /// Does two calls for a caller, over any device. The log has two entries more, and the receipts are those: this caller's next two
 /// serials, with these calls.
@@ -56,6 +57,29 @@ pub fn first_answer(log: &Log<Device>) -> Option<&FrontendAnswer>
     }
 }
 
+/// Caller 1 makes a call of a new recorder, and then caller 2, over any device. They leave a log of two entries.
+fn calls_of_two<D: VhostUserBackendReqHandlerMut<Link = MemLink>, L: Ledger, R: Wait>(
+    rt: &R,
+    recorder: Recorder<D, L>,
+    mut all: Share<L>,
+    first: &FrontendCall,
+    second: &FrontendCall,
+) -> Result<(Log<D>, Receipt, Receipt), Halt>
+    requires whole { (parts_of all ≡ L.parts) × (L.parts ≡ 3) }
+    requires none { count_of all ≡ 0 }
+    ensures counted { IfOk result (λ done. length done.0.entries ≡ 2) }
+    ensures first { IfOk result (λ done. (done.1.caller ≡ 1) × (done.1.call ≡ call_of first.now)) }
+    ensures second { IfOk result (λ done. (done.2.caller ≡ 2) × (done.2.call ≡ call_of second.now)) }
+{
+    let mut one = all.split(1);
+    let mut two = all.split(2);
+    let asked = recorder.call(rt, &mut one, first)?;
+    let claimed = recorder.call(rt, &mut two, second)?;
+    all.join(one);
+    all.join(two);
+    Ok((recorder.close(all), asked, claimed))
+}
+
 /// Caller 1 asks for the features of a new example device, and then caller 2 claims it.
 fn two_callers_in<L: Ledger, R: Wait>(
     rt: &R,
@@ -69,14 +93,16 @@ fn two_callers_in<L: Ledger, R: Wait>(
 {
     let device = DummyBackendReqHandler::new(alloc, Vec::new(alloc));
     let scripts = (Vec::new(alloc), Vec::new(alloc));
-    let (recorder, mut all) = Recorder::<Device, L>::open(blank, alloc, device, 2, 3, scripts)?;
-    let mut one = all.split(1);
-    let mut two = all.split(2);
-    let asked = recorder.call(rt, &mut one, &FrontendCall::GetFeatures)?;
-    let claimed = recorder.call(rt, &mut two, &FrontendCall::SetOwner)?;
-    all.join(one);
-    all.join(two);
-    Ok((recorder.close(all), asked, claimed))
+    match Recorder::<Device, L>::open(blank, alloc, device, 2, 3, scripts) {
+        Ok((recorder, all)) => calls_of_two(
+            rt,
+            recorder,
+            all,
+            &FrontendCall::GetFeatures,
+            &FrontendCall::SetOwner,
+        ),
+        Err(halt) => Err(halt),
+    }
 }
 
 /// Caller 1 asks for the features of a new example device, and then caller 2 claims it: a log of two entries, and the receipt of each

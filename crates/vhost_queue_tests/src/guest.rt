@@ -16,12 +16,20 @@ pub(crate) const USER: u64 = 0x10000;
 /// Where the second of two regions begins.
 pub(crate) const BORDER: u64 = 0x800;
 
+/// What was served: how many segments the last request had, how many bytes were to be written, and what the driver sees of it.
+#[derive(Clone, Copy, Debug, PartialEq, Eq)]
+pub(crate) struct Served {
+    pub(crate) segments: usize,
+    pub(crate) writable: u64,
+    pub(crate) seen: u16,
+}
+
 /// The guest's memory, and of what the last request was: how many segments, and how many bytes to write.
 #[derive(Drop)]
 pub(crate) struct Guest {
     bytes: Vec<u8>,
-    pub(crate) segments: usize,
-    pub(crate) writable: u64,
+    segments: usize,
+    writable: u64,
 }
 
 impl Guest {
@@ -62,9 +70,13 @@ impl Guest {
         ]
     }
 
-    /// Sixteen bits at an address of the guest.
-    pub(crate) fn word(&self, at: u64) -> u16 {
-        self.u16_at(at.wrapping_add(HOST))
+    /// What was served, of which the driver sees this word.
+    pub(crate) fn served(&self, at: u64) -> Served {
+        Served {
+            segments: self.segments,
+            writable: self.writable,
+            seen: self.u16_at(at.wrapping_add(HOST)),
+        }
     }
 
     /// A descriptor of either layout at an address of the guest: two numbers, and what comes third and fourth.

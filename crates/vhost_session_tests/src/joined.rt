@@ -105,13 +105,20 @@ fn seen_over<D: Example>(alloc: Global) -> Option<Seen> {
     })
 }
 
+/// Whether a call fails for which no reply came.
+fn fails_in_silence<D: Example>(joined: &mut Joined<D>) -> Option<bool> {
+    let answer = shows_no_reply(joined, &FrontendCall::GetFeatures).ok()?;
+    let is_failure = matches!(answer, FrontendAnswer::Failed(_));
+    Some(is_failure && joined.last_reply().0.is_empty())
+}
+
 /// Whether no reply is shown where the handler's link goes by this script.
 fn is_silent<D: Example>(alloc: Global, script: Vec<Cut>) -> Option<bool> {
     let scripts = (Vec::new(alloc), script);
-    let mut joined = Joined::new(alloc, D::fresh(alloc), 2, 3, scripts).ok()?;
-    let answer = shows_no_reply(&mut joined, &FrontendCall::GetFeatures).ok()?;
-    let is_failure = matches!(answer, FrontendAnswer::Failed(_));
-    Some(is_failure && joined.last_reply().0.is_empty())
+    match Joined::new(alloc, D::fresh(alloc), 2, 3, scripts) {
+        Ok(mut joined) => fails_in_silence(&mut joined),
+        Err(_) => None,
+    }
 }
 
 /// The same of a link that fails at once.
@@ -123,8 +130,10 @@ fn silent_at_once<D: Example>(alloc: Global) -> Option<bool> {
 /// How many calls were answered, and whether the run stopped by the table.
 fn claimed(alloc: Global) -> Option<(usize, bool)> {
     let mut answers = Vec::new(alloc);
-    let joined = claims_twice(alloc, Vec::new(alloc), &mut answers).ok()?;
-    Some((answers.len(), matches!(joined.stopped(), Some(Stop::Table))))
+    match claims_twice(alloc, Vec::new(alloc), &mut answers) {
+        Ok(joined) => Some((answers.len(), matches!(joined.stopped(), Some(Stop::Table)))),
+        Err(_) => None,
+    }
 }
 
 pub(crate) fn hold<D: Example>(alloc: Global) -> [bool; 3] {

@@ -111,12 +111,16 @@ fn has_all(device: &Device) -> bool {
         && files == (Some(FILE), Some(FILE), Some(FILE))
 }
 
+/// Whether a device behind a lock has all.
+fn has_all_behind(rt: &impl Wait, device: &Mutex<Device>) -> bool {
+    has_all(&device.lock(rt))
+}
+
 /// Both of the example device behind a lock.
 fn served_shared(rt: &impl Wait, alloc: Global) -> Option<[bool; 2]> {
     let device = Arc::new(alloc, Mutex::new(Device::new(alloc, Vec::new(alloc)))).ok()?;
     let served = serves_all(rt, alloc, device.clone().ok()?)?;
-    let lent = device.lock(rt);
-    Some([served, has_all(&lent)])
+    Some([served, has_all_behind(rt, &device)])
 }
 
 #[test]

@@ -4,12 +4,14 @@ use crate::example::Example;
 use std::alloc::Global;
 use std::sync::Wait;
 use vhost_endpoint::Endpoint;
+use vhost_frontend_req_handler::VhostUserFrontendReqHandlerMut;
 use vhost_link::{Kind, MemLink, PlainHandle};
 use vhost_message::{
-    Error, FrontendReq, IoCause, IoError, Result as Answer, VhostUserConfig, VhostUserConfigFlags,
-    VhostUserMsgHeader, VhostUserU64,
+    Error, FrontendReq, HandlerResult, IoCause, IoError, Result as Answer, VhostUserConfig,
+    VhostUserConfigFlags, VhostUserMsgHeader, VhostUserU64,
 };
 use vhost_pair::Joined;
+use vhost_pair_reverse::JoinedReverse;
 use vhost_promises::{
     Device, answers_whoever_waits, back_and_there, finds_own, first_answer, goes_on_unserved_new,
     names_request, opens_its_own, records_two, runs_two_lines, same_number, sends_in_one,
@@ -97,16 +99,27 @@ static REFUSED: [u8; 20] = [
     6, 0, 0, 0, 5, 0, 0, 0, 8, 0, 0, 0, 0xda, 255, 255, 255, 255, 255, 255, 255,
 ];
 
+/// Whether the last call was refused, by its reply and by its answer.
+fn ends_refused<F: VhostUserFrontendReqHandlerMut<Handle = PlainHandle>>(
+    joined: &JoinedReverse<F>,
+    answers: &[HandlerResult<u64>],
+) -> [bool; 2] {
+    [
+        joined.last_reply().0 == REFUSED.as_slice(),
+        matches!(
+            answers.last(),
+            Some(Err(IoError::Of(Error::FrontendInternalError)))
+        ),
+    ]
+}
+
 /// Whether an object that is shared twice is refused the second time.
 fn shared_twice(alloc: Global) -> Option<[bool; 2]> {
     let mut answers = Vec::new(alloc);
-    let joined = shares_twice(alloc, &mut answers).ok()?;
-    let is_refused = joined.last_reply().0 == REFUSED.as_slice();
-    let last = answers.as_slice().last();
-    Some([
-        is_refused,
-        matches!(last, Some(Err(IoError::Of(Error::FrontendInternalError)))),
-    ])
+    match shares_twice(alloc, &mut answers) {
+        Ok(joined) => Some(ends_refused(&joined, &answers)),
+        Err(_) => None,
+    }
 }
 
 /// SET_PROTOCOL_FEATURES with BACKEND_REQ alone, and SET_BACKEND_REQ_FD.
@@ -188,8 +201,10 @@ fn seen_of(log: &Log<Device>, first: &Receipt, second: &Receipt) -> Seen {
 }
 
 fn two_callers_seen<R: Wait>(rt: &R, alloc: Global) -> Option<Seen> {
-    let (log, first, second) = two_callers(rt, alloc).ok()?;
-    Some(seen_of(&log, &first, &second))
+    match two_callers(rt, alloc) {
+        Ok((log, first, second)) => Some(seen_of(&log, &first, &second)),
+        Err(_) => None,
+    }
 }
 
 /// What caller 7 saw: the serials of two calls, what the second answered, and whether the receipt of a third is found.
