@@ -2,10 +2,11 @@
 # SPDX-License-Identifier: Apache-2.0
 """gates.py COMMIT COMMIT..: what the gate takes of several states of the repository, beside one another on one machine.
 
-Each state is cloned, with nothing kept, and its ./test runs, and then its ./test-mutants where it has one: all states at once, each on its
-share of the processors that this may use. Standard error tells as each ends. A line is a crate: in each state the seconds of processor
-time of its proof, of that of its tests, of its mutants in must-fail/ and of those in mutants/. The last lines are the sums in minutes,
-with what is of no crate, how many times the first state's the others' are, and how each run ended, with the minutes that it took.
+Each state is cloned, and its gate runs from nothing (`rt ci --anew`, with as many processes as it has processors, as ./test does it), and
+then its ./test-mutants where it has one: all states at once, each on its share of the processors that this may use. Standard error tells as
+each ends. A line is a crate: in each state the seconds of processor time of its proof, of that of its tests, of its mutants in must-fail/
+and of those in mutants/. The last lines are the sums in minutes, with what is of no crate, how many times the first state's the others'
+are, and how each run ended, with the minutes that it took.
 
 Whoever interrupts it gets what was seen until then. Status 0; 1 where a run did not pass; 2 after wrong arguments.
 """
@@ -36,7 +37,8 @@ class Run:
         self.commit, self.folder, self.seen, self.status, self.minutes = commit, f"{room}/{commit}", {}, None, 0.0
         subprocess.run(["git", "clone", "-q", TOP, self.folder], check=True)
         subprocess.run(["git", "checkout", "-q", commit], cwd=self.folder, check=True)
-        command = "./test && { [ ! -x test-mutants ] || ./test-mutants --jobs $(nproc); }"
+        # (what a run of rt ci proved is kept beside the kit, also for another state)
+        command = "RT_JOBS=$(nproc) rt ci --anew && { [ ! -x test-mutants ] || ./test-mutants --jobs $(nproc); }"
         with open(f"{self.folder}.log", "wb") as log:
             how = {"stdin": subprocess.DEVNULL, "stdout": log, "stderr": log, "start_new_session": True}
             self.began = time.monotonic()
