@@ -8,7 +8,7 @@ use vhost_link::{Cut, MemLink};
 use vhost_message::{Error, IoCause};
 use vhost_promises::{
     asks_again, asks_broken, asks_without_memory, finds_sound, meets_fault_asking,
-    meets_fault_calling, own_features, reads_features_new,
+    meets_fault_calling, reads_features_new,
 };
 
 /// The reply to GET_FEATURES: 0x40000001.
@@ -78,13 +78,6 @@ fn replied(alloc: Global, count: usize) -> Option<MemLink> {
     Some(link)
 }
 
-/// Whether the first of two calls of a shared frontend answers the only reply, and the second fails.
-fn answers_one(rt: &impl Wait, alloc: Global) -> Option<[bool; 2]> {
-    let frontend = Frontend::from_stream(alloc, replied(alloc, 1)?, 1, 0).ok()?;
-    let first = matches!(own_features(&frontend, rt), Ok(0x4000_0001));
-    Some([first, own_features(&frontend, rt).is_err()])
-}
-
 /// What two calls of a shared frontend, one after another, are answered over this link.
 fn asked_twice(rt: &impl Wait, alloc: Global, link: MemLink) -> Option<[Option<u64>; 2]> {
     let frontend = Frontend::from_stream(alloc, link, 1, 0).ok()?;
@@ -120,13 +113,12 @@ fn asks_two(alloc: Global) -> Option<bool> {
     Some(asks_again(&mut quiet, 2).is_ok())
 }
 
-pub(crate) fn hold(rt: &impl Wait, alloc: Global) -> [bool; 8] {
+pub(crate) fn hold(rt: &impl Wait, alloc: Global) -> [bool; 7] {
     let features = Some(0x4000_0001);
     [
         read_in_pieces(alloc) == Some(0x4000_0003),
         torn(alloc) == Some([Some((5, false)), Some((5, true))]),
         asked_where_it_tears(alloc) == Some([true; 2]),
-        answers_one(rt, alloc) == Some([true; 2]),
         // The second call finds a session that is sound, unless the link has failed.
         asked_where_sound(rt, alloc) == Some([features, features]),
         asked_where_torn(rt, alloc) == Some([None, None]),

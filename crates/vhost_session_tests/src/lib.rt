@@ -22,8 +22,6 @@ mod recorder;
 #[cfg(test)]
 mod retries;
 #[cfg(test)]
-mod rings;
-#[cfg(test)]
 mod serving;
 #[cfg(test)]
 mod shared;

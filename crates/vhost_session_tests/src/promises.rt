@@ -2,7 +2,6 @@
 
 use crate::example::Example;
 use std::alloc::Global;
-use std::sync::Wait;
 use vhost_endpoint::Endpoint;
 use vhost_frontend_req_handler::VhostUserFrontendReqHandlerMut;
 use vhost_link::{Kind, MemLink, PlainHandle};
@@ -13,12 +12,12 @@ use vhost_message::{
 use vhost_pair::Joined;
 use vhost_pair_reverse::JoinedReverse;
 use vhost_promises::{
-    Device, answers_whoever_waits, back_and_there, finds_own, first_answer, goes_on_unserved_new,
-    names_request, opens_its_own, records_two, runs_two_lines, same_number, sends_in_one,
-    serves_by_halves, serves_three_new, shares_twice, steps_without_memory, two_callers,
+    answers_whoever_waits, back_and_there, finds_own, goes_on_unserved_new, names_request,
+    opens_its_own, records_two, runs_two_lines, same_number, sends_in_one, serves_by_halves,
+    serves_three_new, shares_twice, steps_without_memory,
 };
 use vhost_protocol::Profile;
-use vhost_recorder::{FrontendAnswer, FrontendCall, Halt, Log, Receipt, Recorded};
+use vhost_recorder::{FrontendAnswer, FrontendCall, Halt, Recorded};
 use vhost_serving::SessionCore;
 
 /// The reply to GET_FEATURES: 0x40000003.
@@ -180,33 +179,6 @@ fn config_sent(alloc: Global) -> Option<[bool; 2]> {
     Some([sent, end.link().taken().bytes() == CONFIG.as_slice()])
 }
 
-/// What a reader of a log saw, as plain values.
-#[derive(Clone, Copy, Debug, PartialEq, Eq)]
-struct Seen {
-    entries: usize,
-    confirmed: bool,
-    features: Option<u64>,
-}
-
-fn seen_of(log: &Log<Device>, first: &Receipt, second: &Receipt) -> Seen {
-    let features = match first_answer(log) {
-        Some(FrontendAnswer::Number(number)) => Some(*number),
-        _ => None,
-    };
-    Seen {
-        entries: log.entries().len(),
-        confirmed: log.confirms(first) && log.confirms(second),
-        features,
-    }
-}
-
-fn two_callers_seen<R: Wait>(rt: &R, alloc: Global) -> Option<Seen> {
-    match two_callers(rt, alloc) {
-        Ok((log, first, second)) => Some(seen_of(&log, &first, &second)),
-        Err(_) => None,
-    }
-}
-
 /// What caller 7 saw: the serials of two calls, what the second answered, and whether the receipt of a third is found.
 #[derive(Clone, Copy, Debug, PartialEq, Eq)]
 struct Three {
@@ -265,12 +237,7 @@ pub(crate) fn hold_over<D: Example>(alloc: Global) -> [bool; 6] {
 }
 
 /// Whether the others hold.
-pub(crate) fn hold<R: Wait>(rt: &R, alloc: Global) -> [bool; 7] {
-    let seen = Seen {
-        entries: 2,
-        confirmed: true,
-        features: Some(0x4000_0003),
-    };
+pub(crate) fn hold(alloc: Global) -> [bool; 6] {
     let named = (FrontendReq::SET_OWNER, 4, false, true);
     [
         three_served(alloc) == Some([true; 2]),
@@ -278,7 +245,6 @@ pub(crate) fn hold<R: Wait>(rt: &R, alloc: Global) -> [bool; 7] {
         two_printed(alloc) == Some(true),
         shared_twice(alloc) == Some([true; 2]),
         config_sent(alloc) == Some([true; 2]),
-        two_callers_seen(rt, alloc) == Some(seen),
         there_and_back() == Some((5, 0x107, named)),
     ]
 }

@@ -5,5 +5,3 @@ mod device;
 mod links;
 mod listening;
 mod outcome;
-mod serving;
-mod talking;

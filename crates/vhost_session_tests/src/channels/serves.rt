@@ -61,6 +61,11 @@ impl VhostUserFrontendReqHandlerMut for Five {
     }
 }
 
+/// Whoever answers the calls of a session in memory, so that what is generic in it is called with `Five` once.
+trait Frontend: VhostUserFrontendReqHandlerMut<Handle = PlainHandle> {}
+
+impl Frontend for Five {}
+
 /// A session on which these bytes came, over a link with this script.
 fn new_core(alloc: Global, bytes: &[u8], cuts: Vec<Cut>) -> Option<FrontendReqCore<MemLink>> {
     let mut link = MemLink::new(alloc, cuts);
@@ -69,25 +74,25 @@ fn new_core(alloc: Global, bytes: &[u8], cuts: Vec<Cut>) -> Option<FrontendReqCo
 }
 
 /// Whether a request is served, and the end of the stream is the answer after it.
-fn served_whole(alloc: Global) -> Option<bool> {
+fn served_whole<F: Frontend>(alloc: Global, frontend: &mut F) -> Option<bool> {
     let mut core = new_core(alloc, &ADD, Vec::new(alloc))?;
-    let answers = serves_whole_back(alloc, &mut core, &mut Five, 2).ok()?;
+    let answers = serves_whole_back(alloc, &mut core, frontend, 2).ok()?;
     Some(matches!(answers.as_slice(), [Ok(5), Err(Error::Disconnected)]))
 }
 
 /// Whether a request is answered that the endpoint was poisoned before.
-fn unserved(alloc: Global) -> Option<bool> {
+fn unserved<F: Frontend>(alloc: Global, frontend: &mut F) -> Option<bool> {
     let mut core = new_core(alloc, &ADD, Vec::new(alloc))?;
     core.endpoint_mut().break_with(IoCause::Raw(5));
-    let answer = serves_no_broken_back(&mut core, &mut Five);
+    let answer = serves_no_broken_back(&mut core, frontend);
     Some(matches!(answer, Err(Error::SocketBroken(IoCause::Raw(5)))))
 }
 
 /// Whether a request that the link's error 5 stops after five bytes is answered so, and one behind it that the endpoint is poisoned.
-fn stopped(alloc: Global, cuts: Vec<Cut>) -> Option<[bool; 2]> {
+fn stopped<F: Frontend>(alloc: Global, frontend: &mut F, cuts: Vec<Cut>) -> Option<[bool; 2]> {
     let mut core = new_core(alloc, &ADD, cuts)?;
-    let first = meets_fault_back(&mut core, &mut Five);
-    let later = stays_broken_back(alloc, &mut core, &mut Five, 1).ok()?;
+    let first = meets_fault_back(&mut core, frontend);
+    let later = stays_broken_back(alloc, &mut core, frontend, 1).ok()?;
     Some([
         matches!(first, Err(Error::SocketError(IoCause::Raw(5)))),
         matches!(
@@ -98,26 +103,26 @@ fn stopped(alloc: Global, cuts: Vec<Cut>) -> Option<[bool; 2]> {
 }
 
 /// The same over such a link.
-fn torn(alloc: Global) -> Option<[bool; 2]> {
+fn torn<F: Frontend>(alloc: Global, frontend: &mut F) -> Option<[bool; 2]> {
     let cuts = vec![in alloc; Cut::Give(5), Cut::Fault(5)].ok()?;
-    stopped(alloc, cuts)
+    stopped(alloc, frontend, cuts)
 }
 
 /// Whether a stream that ends inside a header is answered so.
-fn none_found(alloc: Global) -> Option<bool> {
+fn none_found<F: Frontend>(alloc: Global, frontend: &mut F) -> Option<bool> {
     let mut core = new_core(alloc, &ADD[..5], Vec::new(alloc))?;
-    let answer = finds_none_back(&mut core, &mut Five);
+    let answer = finds_none_back(&mut core, frontend);
     Some(matches!(answer, Err(Error::PartialMessage)))
 }
 
 /// Whether a request that is served in two halves is answered, and acknowledged. None where a new session has a call before it.
-fn in_halves(alloc: Global) -> Option<[bool; 2]> {
+fn in_halves<F: Frontend>(alloc: Global, frontend: &mut F) -> Option<[bool; 2]> {
     let mut core = new_core(alloc, &ADD, Vec::new(alloc))?;
     core.set_reply_ack_flag(true);
     if core.has_call() {
         return None;
     }
-    let answer = answers_by_halves(&mut core, &mut Five);
+    let answer = answers_by_halves(&mut core, frontend);
     let written = core.endpoint_mut().link().taken().bytes() == ADDED.as_slice();
     Some([matches!(answer, Ok(5)), written])
 }
@@ -150,13 +155,17 @@ fn shared(alloc: Global) -> std::result::Result<Arc<Nothing, Global>, AllocError
     Arc::new(alloc, Nothing).map_err(|_| AllocError)
 }
 
-pub(crate) fn hold(rt: &impl Wait, alloc: Global) -> [bool; 6] {
+/// Whether those hold that are of a frontend which answers 5.
+fn hold_over<F: Frontend>(alloc: Global, five: &mut F) -> [bool; 5] {
     [
-        served_whole(alloc) == Some(true),
-        unserved(alloc) == Some(true),
-        torn(alloc) == Some([true; 2]),
-        none_found(alloc) == Some(true),
-        in_halves(alloc) == Some([true; 2]),
-        shared_nothing(rt, alloc) == Some(38),
+        served_whole(alloc, five) == Some(true),
+        unserved(alloc, five) == Some(true),
+        torn(alloc, five) == Some([true; 2]),
+        none_found(alloc, five) == Some(true),
+        in_halves(alloc, five) == Some([true; 2]),
     ]
+}
+
+pub(crate) fn hold(rt: &impl Wait, alloc: Global) -> bool {
+    hold_over(alloc, &mut Five) == [true; 5] && shared_nothing(rt, alloc) == Some(38)
 }

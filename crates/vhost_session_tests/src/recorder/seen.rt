@@ -78,51 +78,6 @@ fn four<D: Example, R: Threads + Wait + Sync>(
     Ok(seen_of(&crowd))
 }
 
-/// The serial of a caller's last receipt, whether its own log confirms it, and whether another log does.
-fn last_confirmed<D: Example>(own: &Crowd<D>, another: &Crowd<D>) -> Option<(u64, bool, bool)> {
-    let receipt = own.first.as_slice().last()?;
-    Some((
-        receipt.serial(),
-        own.log.confirms(receipt),
-        another.log.confirms(receipt),
-    ))
-}
-
-/// Four callers who ask a new device so often each.
-fn crowd<D: Example, R: Threads + Wait + Sync>(
-    rt: &R,
-    alloc: Global,
-    count: u32,
-) -> Result<Crowd<D>, Halt> {
-    match asking(alloc, count) {
-        Ok(calls) => four_callers(rt, alloc, D::fresh(alloc), &calls, (0, Vec::new(alloc))),
-        Err(_) => Err(Halt::OutOfMemory),
-    }
-}
-
-/// What is seen of these callers beside others, who make 100 calls each.
-fn beside_others<D: Example, R: Threads + Wait + Sync>(
-    rt: &R,
-    alloc: Global,
-    own: &Crowd<D>,
-) -> Option<(u64, bool, bool)> {
-    match crowd::<D, R>(rt, alloc, 100) {
-        Ok(another) => last_confirmed(own, &another),
-        Err(_) => None,
-    }
-}
-
-/// The same of four callers who make 101 calls each, where those of the other log make one call less.
-fn one_more<D: Example, R: Threads + Wait + Sync>(
-    rt: &R,
-    alloc: Global,
-) -> Option<(u64, bool, bool)> {
-    match crowd::<D, R>(rt, alloc, 101) {
-        Ok(own) => beside_others(rt, alloc, &own),
-        Err(_) => None,
-    }
-}
-
 /// How many of these calls are recorded, so that the log has their receipts.
 fn kept<D: Example>(recorded: &mut Recorded<D>, calls: &[FrontendCall]) -> u64 {
     let mut count = 0u64;
@@ -181,7 +136,7 @@ fn kept_of<D: Example>(recorded: Option<Recorded<D>>, calls: &[FrontendCall]) ->
 }
 
 /// Whether those hold that are of any device.
-pub(crate) fn hold_over<D: Example, R: Threads + Wait + Sync>(rt: &R, alloc: Global) -> [bool; 3] {
+pub(crate) fn hold_over<D: Example, R: Threads + Wait + Sync>(rt: &R, alloc: Global) -> [bool; 2] {
     let all = Seen {
         confirmed: 400,
         entries: 400,
@@ -196,7 +151,6 @@ pub(crate) fn hold_over<D: Example, R: Threads + Wait + Sync>(rt: &R, alloc: Glo
     [
         four::<D, R>(rt, alloc, 100, 4) == Ok(all),
         four::<D, R>(rt, alloc, 1, 3) == Ok(none),
-        one_more::<D, R>(rt, alloc) == Some((100, true, false)),
     ]
 }
 
