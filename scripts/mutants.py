@@ -304,14 +304,20 @@ def is_named(mutant, words):
     return mutant.path.startswith("mutants/") and (not words or mutant.crate in words)
 
 
+def size_of(crate):
+    """How many bytes of code a crate has."""
+    return sum(os.path.getsize(f"{at}/{name}") for at, _, names in os.walk(f"{TOP}/crates/{crate}/src") for name in names)
+
+
 def all_rounds(mutants, words):
-    """The checks that try what is named, each crate's with its harmless mutant in the first of them."""
+    """The checks that try what is named, each crate's with its harmless mutant in the first of them. Those of large crates come first, since
+    they are the longest, and one that began last would keep the other processors waiting."""
     rounds = []
     for crate in dependencies():
         own = [it for it in mutants if it.crate == crate]
         named = [it for it in own if is_named(it, words) and not it.is_harmless()]
         rounds += rounds_of([*(it for it in own if it.is_harmless()), *named]) if named else []
-    return rounds
+    return sorted(rounds, key=lambda it: -size_of(it[0].crate))
 
 
 def lacking(crates):
