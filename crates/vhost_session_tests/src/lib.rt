@@ -1,4 +1,4 @@
-//! Tests of whole sessions that no script can say: worked consequences, each run once, recorders, and sessions that a gate ends.
+//! Tests of whole sessions that no script can say: worked consequences, each run once, recorders, and links that retry.
 #![tactic(auto)]
 
 #[cfg(test)]
@@ -14,14 +14,8 @@ mod frontend;
 #[cfg(test)]
 mod joined;
 #[cfg(test)]
-mod locked;
-#[cfg(test)]
 mod promises;
 #[cfg(test)]
 mod recorder;
 #[cfg(test)]
 mod retries;
-#[cfg(test)]
-mod serving;
-#[cfg(test)]
-mod shared;

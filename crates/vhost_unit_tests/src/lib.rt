@@ -1,4 +1,4 @@
-//! Tests of records, links, endpoints, sockets and threads that no script can say. Beside its crate each would be proved twice, with its
+//! Tests of records, links, endpoints, sockets, threads and locks that no script can say. Beside its crate each would be proved twice, with its
 //! tests and without; here they share what a check loads of the crates below.
 #![tactic(auto)]
 
@@ -11,9 +11,15 @@ mod endpoint;
 #[cfg(test)]
 mod link;
 #[cfg(test)]
+mod locked;
+#[cfg(test)]
 mod message;
 #[cfg(test)]
 mod rings;
+#[cfg(test)]
+mod serving;
+#[cfg(test)]
+mod shared;
 #[cfg(test)]
 mod sockets;
 #[cfg(test)]

@@ -5,11 +5,14 @@ ghost use Rattle.std.specs.Prelude.{⊤};
 use std::alloc::Global;
 use std::sync::{Arc, Mutex, Wait};
 use vhost_device::VhostUserBackendReqHandler;
+use vhost_dummy_backend::DummyBackendReqHandler;
 use vhost_frontend_req_handler::{FrontendReqHandler, VhostUserFrontendReqHandlerMut};
 use vhost_link::{Kind, MemLink, PlainHandle};
 use vhost_message::{Error, HandlerResult, VhostUserMMap, VhostUserSharedMsg};
-use vhost_promises::Device;
 use vhost_serving::BackendReqHandler;
+
+/// The example device, over links in memory.
+type Device = DummyBackendReqHandler<MemLink>;
 
 /// A request: how many descriptors it has, and its bytes.
 type Sent = (usize, &'static [u8]);
