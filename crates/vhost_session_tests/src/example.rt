@@ -6,7 +6,7 @@ use vhost_link::MemLink;
 use vhost_promises::Device;
 
 /// A device of links in memory that a test makes anew.
-pub(crate) trait Example: VhostUserBackendReqHandlerMut<Link = MemLink> + Send {
+pub(crate) trait Example: VhostUserBackendReqHandlerMut<Link = MemLink> {
     /// A new one, without descriptors to give out.
     fn fresh(alloc: Global) -> Self;
 }

@@ -1,4 +1,4 @@
-//! Tests of whole sessions that no script can say: worked consequences, each run once, recorders, and links that retry.
+//! Tests of whole sessions that no script can say: worked consequences, each run once, and links that retry.
 #![tactic(auto)]
 
 #[cfg(test)]
@@ -15,7 +15,5 @@ mod frontend;
 mod joined;
 #[cfg(test)]
 mod promises;
-#[cfg(test)]
-mod recorder;
 #[cfg(test)]
 mod retries;

@@ -1,4 +1,4 @@
-//! Tests of records, links, endpoints, sockets, threads and locks that no script can say. Beside its crate each would be proved twice, with its
+//! Tests of records, links, endpoints, sockets, threads, locks and recorders that no script can say. Beside its crate each would be proved twice, with its
 //! tests and without; here they share what a check loads of the crates below.
 #![tactic(auto)]
 
@@ -14,6 +14,8 @@ mod link;
 mod locked;
 #[cfg(test)]
 mod message;
+#[cfg(test)]
+mod recorder;
 #[cfg(test)]
 mod rings;
 #[cfg(test)]

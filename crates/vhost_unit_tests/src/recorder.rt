@@ -1,4 +1,4 @@
 //! Callers of one recorder in threads of their own, with what is proved of their receipts.
 
 mod drive;
-pub(crate) mod seen;
+mod seen;
