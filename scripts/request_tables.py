@@ -316,7 +316,7 @@ TABLES = {
     f"{DISPLAY}/src/gpu_backend_req.rt": {"variants": variants("display", True), "requests": read_numbers("display", "GpuBackendReq")},
     "crates/vhost_lines/src/call_words/why.rt": {"calls": words, "help": helped},
     "crates/vhost_lines/src/call_words/table.rt": {"calls": readers},
-    "crates/vhost_recorder/src/comparing/calls.rt": {"calls": compared},
+    "crates/vhost_comparing/src/calls.rt": {"calls": compared},
     "crates/vhost_recorder/src/copying/calls.rt": {"calls": copied},
 }
 

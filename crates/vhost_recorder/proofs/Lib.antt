@@ -1,5 +1,3 @@
-pub mod Tables
 pub mod Logs
 pub mod Going
 pub mod Kept
-pub mod Requests

@@ -3,8 +3,8 @@
 ghost use Rattle.std.specs.Prelude.{◌≡◌, ◌↔◌, IsTrue};
 ghost use Rattle.vhost_frontend_core.specs.Values.{call_of, answer_of};
 
-use crate::comparing::{is_same_answer, is_same_call};
 use std::marker::Model;
+use vhost_comparing::{is_same_answer, is_same_call};
 use vhost_pair::{FrontendAnswer, FrontendCall};
 
 /// Who called, how many times before, with what, and what was answered.

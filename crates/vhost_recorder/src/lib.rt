@@ -2,7 +2,6 @@
 //! their calls.
 #![tactic(auto)]
 
-mod comparing;
 mod copying;
 mod entry;
 mod log;

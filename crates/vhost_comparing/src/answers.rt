@@ -3,10 +3,10 @@
 ghost use Rattle.std.specs.Prelude.{◌≡◌, ◌↔◌, IsTrue};
 ghost use Rattle.vhost_frontend_core.specs.Values.{answer_of, bases_of};
 
-use crate::comparing::errors::is_same_error;
-use crate::comparing::records::{is_same_config, is_same_inflight};
+use crate::errors::is_same_error;
+use crate::records::{is_same_config, is_same_inflight};
+use vhost_frontend_core::FrontendAnswer;
 use vhost_message::{ByteValued, VhostUserShMemConfig};
-use vhost_pair::FrontendAnswer;
 
 /// How many bytes the record of shared memory regions has.
 const SHMEM_CONFIG_SIZE: usize = 2056;

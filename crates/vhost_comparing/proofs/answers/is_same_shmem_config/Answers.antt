@@ -1,7 +1,7 @@
 use Rattle.std.proofs.Common.{◌≡◌, ◌∙◌, sym, ap, rules}
 use Rattle.vhost_message.specs.LongRecords.{shmem_config-reads_back}
 use Rattle.vhost_message.specs.Records.{shmem_config_of, shmem_config_text}
-use Rattle.vhost_recorder.proofs.comparing.answers.is_same_shmem_config.Goals as goal
+use Rattle.vhost_comparing.proofs.answers.is_same_shmem_config.Goals as goal
 
 pub returns : goal.returns
 returns c = (

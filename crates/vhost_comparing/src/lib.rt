@@ -1,4 +1,5 @@
-//! Whether two calls, or two answers, are the same.
+//! Whether two calls of a frontend, or two of its answers, are the same.
+#![tactic(auto)]
 
 mod answers;
 mod calls;

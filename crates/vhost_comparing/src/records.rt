@@ -5,12 +5,12 @@ ghost use Rattle.vhost_message.specs.FrontendReq.{is_named};
 ghost use Rattle.vhost_frontend_core.specs.Regions.{info_of};
 ghost use Rattle.vhost_frontend_core.specs.Values.{log_region_of};
 
+use vhost_frontend_core::{LogRegion, RegionInfo};
 use vhost_link::PlainHandle;
 use vhost_message::{
     FrontendReq, VhostUserConfig, VhostUserInflight, VhostUserMemoryRegion, VhostUserSharedMsg,
     VringConfigData,
 };
-use vhost_pair::{LogRegion, RegionInfo};
 
 /// Of two regions of guest memory.
 fn is_same_region(a: &VhostUserMemoryRegion, b: &VhostUserMemoryRegion) -> bool

@@ -3,12 +3,12 @@
 ghost use Rattle.std.specs.Prelude.{◌≡◌, ◌↔◌, IsTrue};
 ghost use Rattle.vhost_frontend_core.specs.Values.{call_of};
 
-use crate::comparing::records::{
+use crate::records::{
     are_same_infos, is_same_inflight, is_same_info, is_same_log_region, is_same_name,
     is_same_request, is_same_ring,
 };
 use bitflags::Flags;
-use vhost_pair::FrontendCall;
+use vhost_frontend_core::FrontendCall;
 
 /// Whether both are the same call with the same arguments.
 pub fn is_same_call(a: &FrontendCall, b: &FrontendCall) -> bool

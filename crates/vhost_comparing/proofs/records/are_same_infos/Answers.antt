@@ -1,7 +1,7 @@
 use Rattle.std.proofs.Common.{rules}
 use Rattle.vhost_frontend_core.specs.Regions.{info_of}
-use Rattle.vhost_recorder.proofs.Tables.{same_here}
-use Rattle.vhost_recorder.proofs.comparing.records.are_same_infos.Goals as goal
+use Rattle.vhost_comparing.proofs.Tables.{same_here}
+use Rattle.vhost_comparing.proofs.records.are_same_infos.Goals as goal
 
 pub returns-then-not-is_same_info : goal.returns-then-not-is_same_info
 returns-then-not-is_same_info c = (
