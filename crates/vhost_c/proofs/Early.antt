@@ -8,13 +8,13 @@ use Rattle.vhost_protocol.specs.declared.asked.Shape.TheVariants as shape
 use Rattle.vhost_protocol.specs.declared.profile.Profile.{Profile}
 use Rattle.vhost_protocol.specs.declared.profile.Profile.TheVariants.{Vhost, Standard}
 use Rattle.vhost_link.specs.declared.plain.PlainHandle.{PlainHandle}
-use Rattle.vhost_c.specs.Incoming.{missing_from}
+use Rattle.vhost_c_frontend.specs.Incoming.{missing_from}
 use Rattle.vhost_c_common.specs.Number.{outcome_number}
 use Rattle.vhost_c_common.specs.ByNumber.{By, some}
-use Rattle.vhost_c.specs.Session.{Asking, Opens, opened, was_open, no_room, Asks, sent, at_once, Takes, kept, failed, other_size, nothing_asked, not_yet, missing_for, missing_of, remembers}
+use Rattle.vhost_c_frontend.specs.Session.{Asking, Opens, opened, was_open, no_room, Asks, sent, at_once, Takes, kept, failed, other_size, nothing_asked, not_yet, missing_for, missing_of, remembers}
 use Rattle.vhost_c_common.specs.declared.incoming.Incoming.{Incoming}
 use Rattle.vhost_c_common.specs.declared.refusal.Refusal.{Refusal}
-use Rattle.vhost_c.specs.declared.session.Session.{Session}
+use Rattle.vhost_c_frontend.specs.declared.session.Session.{Session}
 
 -- of a reply of which nothing came, its header and its number are missing
 whole : (profile : Profile) (call : FrontendCall PlainHandle) (a : Awaited) (i : Incoming) → a ≡ Reply shape.U64 → i.count ≡ 0 → missing_from profile call a i ≡ 20

@@ -9,8 +9,8 @@ use Rattle.vhost_c_common.specs.ByNumber.{By, none, some}
 use Rattle.vhost_c_common.specs.Number.{error_number, outcome_number, feature_in, inactive_in}
 use Rattle.vhost_c_common.specs.declared.refusal.Refusal.{Refusal}
 use Rattle.vhost_c_common.specs.declared.refusal.Refusal.TheVariants as refusal
-use Rattle.vhost_c.specs.Session.{Asking, Rejecting, AsksUnless, asks, refuses, wants, inactive_at}
-use Rattle.vhost_c.specs.declared.session.Session.{Session}
+use Rattle.vhost_c_frontend.specs.Session.{Asking, Rejecting, AsksUnless, asks, refuses, wants, inactive_at}
+use Rattle.vhost_c_frontend.specs.declared.session.Session.{Session}
 
 of-error : (e : Error) → error_number e ≢ 3 → error_number e ≢ 4 → feature_in e ≡ 0
 of-error error.InvalidParam no-feature no-operation = refl

@@ -10,13 +10,13 @@ use Rattle.vhost_frontend_core.specs.declared.values.answer.FrontendAnswer.{Fron
 use Rattle.vhost_frontend_core.specs.declared.values.answer.FrontendAnswer.TheVariants as answer
 use Rattle.vhost_c.specs.Answers.{ReadsFd}
 use Rattle.vhost_c_common.specs.Moving.{TakesIn}
-use Rattle.vhost_c.specs.Names.{Names}
+use Rattle.vhost_c_frontend.specs.Names.{Names}
 use Rattle.vhost_c_common.specs.Number.{outcome_number}
 use Rattle.vhost_c_common.specs.Records.{handle_in, fd_in}
 use Rattle.vhost_c_common.specs.ByNumber.{By, none, some}
-use Rattle.vhost_c.specs.Session.{Asking, Asks, sent, at_once, Receiving, Takes, kept, Reading, arrived}
+use Rattle.vhost_c_frontend.specs.Session.{Asking, Asks, sent, at_once, Receiving, Takes, kept, Reading, arrived}
 use Rattle.vhost_c_common.specs.declared.refusal.Refusal.{Refusal}
-use Rattle.vhost_c.specs.declared.session.Session.{Session}
+use Rattle.vhost_c_frontend.specs.declared.session.Session.{Session}
 
 -- all that came is this descriptor; or it is none
 abbrev IsAll : List ℤ → ℤ → Type 0

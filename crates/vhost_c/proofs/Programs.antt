@@ -32,8 +32,8 @@ use Rattle.vhost_c_common.specs.declared.refusal.Refusal.{Refusal}
 use Rattle.vhost_c_common.specs.declared.refusal.Refusal.TheVariants as refusal
 use Rattle.vhost_c_common.proofs.Wants.{lasts}
 use Rattle.vhost_c.specs.Answers.{Reads, number_of, bases_of, config_of, fd_of, inflight_of, shmem_of}
-use Rattle.vhost_c.specs.Session.{Abandoning, Claiming, LettingGo, Reading, Opens, opened, was_open, no_room, ChoosesBy, Choosing, Asking, Asks, sent, at_once, Fails, refused, no_queue, no_list, no_answer, no_request, was_broken, Refused, busy, fails, KeepsAll, Stays, Rejecting, Sending, Receiving, Takes, kept, failed, other_size, nothing_asked, not_yet, remembers, missing_of}
-use Rattle.vhost_c.specs.declared.session.Session.{Session}
+use Rattle.vhost_c_frontend.specs.Session.{Abandoning, Claiming, LettingGo, Reading, Opens, opened, was_open, no_room, ChoosesBy, Choosing, Asking, Asks, sent, at_once, Fails, refused, no_queue, no_list, no_answer, no_request, was_broken, Refused, busy, fails, KeepsAll, Stays, Rejecting, Sending, Receiving, Takes, kept, failed, other_size, nothing_asked, not_yet, remembers, missing_of}
+use Rattle.vhost_c_frontend.specs.declared.session.Session.{Session}
 use Rattle.vhost_c.specs.Calls.{Runs, over, goes_on, AtBoth, none, some, is_named}
 use Rattle.vhost_c.specs.Program.{ReadsTo, Does, IsCalled, IsAlike, is_early, LeavesTaken, Leaves, IsSound, is_harmless, ends_none, refusals}
 use Rattle.vhost_c.specs.declared.places.Places.{Places}

@@ -9,14 +9,14 @@ use Rattle.vhost_c_common.specs.Profile.{profile_at}
 use Rattle.vhost_c_common.specs.declared.refusal.Refusal.TheVariants.{NoSession, SessionOpen, NotTaken, NothingAsked, NotYet, TooManyBytes, NoRoom, OtherAnswer}
 use Rattle.vhost_c.specs.Answers.{ReadsNumber, ReadsBases, ReadsConfig, ReadsFd, ReadsInflight, ReadsShmem}
 use Rattle.vhost_c.specs.Calls.{AtBoth, inactive_feature, inactive_operation, is_named, socket_broken, socket_retry}
-use Rattle.vhost_c.specs.Session.{Abandoning, Claiming, Getting, LettingGo, Opens, ChoosesBy, AsksBy, RejectsBy, Sending, Receiving, Takes, TakesHeld, Reading, Stays, missing_at, inactive_at, view}
+use Rattle.vhost_c_frontend.specs.Session.{Abandoning, Claiming, Getting, LettingGo, Opens, ChoosesBy, AsksBy, RejectsBy, Sending, Receiving, Takes, TakesHeld, Reading, Stays, missing_at, inactive_at, view}
 use Rattle.vhost_c.specs.declared.places.Places.{Places}
 use Rattle.vhost_c.specs.declared.places.ProgramAnswer.{ProgramAnswer}
 use Rattle.vhost_c.specs.declared.program.ProgramCall.{ProgramCall}
 use Rattle.vhost_c.specs.declared.program.ProgramCall.TheVariants.{Open, SetProfile, Ask, AskInvalid, AskWithoutMemory, ToSend, Receive, Take, Read, Claim, Unclaimed, Abandon, Close}
 use Rattle.vhost_c.specs.declared.program.ProgramRead.{ProgramRead}
 use Rattle.vhost_c.specs.declared.program.ProgramRead.TheVariants.{Missing, Inactive, Number, Bases, Config, Fd, Inflight, Shmem}
-use Rattle.vhost_c.specs.declared.session.Session.{Session}
+use Rattle.vhost_c_frontend.specs.declared.session.Session.{Session}
 
 -- What is read of a session, and is at these places then. What they held before stays where a list ends.
 abbrev pub ReadsTo : ProgramRead → Places → Places → Option Session → ℕ → Option Session → Type 0

@@ -2,7 +2,7 @@
 
 ghost use Rattle.vhost_c.specs.Answers.{Puts, ReadsNumber, ReadsBases, ReadsConfig, ReadsFd, ReadsInflight, ReadsShmem};
 ghost use Rattle.vhost_c_common.specs.ByNumber.{By};
-ghost use Rattle.vhost_c.specs.Session.{Reading};
+ghost use Rattle.vhost_c_frontend.specs.Session.{Reading};
 
 use crate::holder::Holder;
 use std::alloc::Global;

@@ -7,7 +7,7 @@ ghost use Rattle.vhost_protocol.specs.FrontendCall as calls;
 ghost use Rattle.vhost_frontend_core.specs.Values.{call_of};
 ghost use Rattle.vhost_c_common.specs.Records.{vring_in, inflight_in};
 ghost use Rattle.vhost_c.specs.Records.{info_in};
-ghost use Rattle.vhost_c.specs.Session.{AsksBy, AsksAllowed, AsksNamed, AsksUnless, RejectsBy, is_header_flag};
+ghost use Rattle.vhost_c_frontend.specs.Session.{AsksBy, AsksAllowed, AsksNamed, AsksUnless, RejectsBy, is_header_flag};
 ghost use Rattle.vhost_message.specs.FrontendReq.{request_at};
 
 use crate::holder::Holder;

@@ -4,7 +4,7 @@ ghost use Rattle.std.specs.Prelude.{◌≡◌, ◌≢◌, ◌⊎◌, ◌∷◌, 
 ghost use Rattle.std.specs.Option.{IsSomeAnd};
 ghost use Rattle.vhost_protocol.specs.Stream.{bytes};
 ghost use Rattle.vhost_c_common.specs.Number.{number};
-ghost use Rattle.vhost_c.specs.Session.{queued};
+ghost use Rattle.vhost_c_frontend.specs.Session.{queued};
 ghost use Rattle.vhost_c_common.specs.declared.refusal.Refusal.TheVariants.{NotYet};
 
 use crate::answers::covretin_answer_fd;

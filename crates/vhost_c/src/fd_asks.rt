@@ -5,7 +5,7 @@ ghost use Rattle.vhost_protocol.specs.FrontendCall as calls;
 ghost use Rattle.vhost_frontend_core.specs.Values.{call_of};
 ghost use Rattle.vhost_c_common.specs.Records.{handle_in};
 ghost use Rattle.vhost_c.specs.Records.{log_in, call_with};
-ghost use Rattle.vhost_c.specs.Session.{AsksBy, AsksWith, AsksNamed};
+ghost use Rattle.vhost_c_frontend.specs.Session.{AsksBy, AsksWith, AsksNamed};
 ghost use Rattle.vhost_message.specs.Transfer.{direction_at, phase_at};
 ghost use Rattle.vhost_c.specs.declared.fd_asks.FdAsk.TheVariants.{SetLogFd, SetBackendRequestFd, SetInflightFd, SetDeviceStateFd};
 

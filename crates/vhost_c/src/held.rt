@@ -1,7 +1,7 @@
 //! Which descriptors of a session are whose.
 
 ghost use Rattle.vhost_c_common.specs.ByNumber.{By};
-ghost use Rattle.vhost_c.specs.Session.{Abandoning, Claiming, LettingGo};
+ghost use Rattle.vhost_c_frontend.specs.Session.{Abandoning, Claiming, LettingGo};
 
 use crate::holder::Holder;
 use std::alloc::Global;

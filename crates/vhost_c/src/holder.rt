@@ -2,16 +2,16 @@
 
 ghost use Rattle.std.specs.Prelude.{Option};
 ghost use Rattle.std.specs.Coded.{coded_option};
-ghost use Rattle.vhost_c.specs.declared.session.Session.{Session};
-ghost use Rattle.vhost_c.specs.contracts.session.Session.{the_row};
+ghost use Rattle.vhost_c_frontend.specs.declared.session.Session.{Session};
+ghost use Rattle.vhost_c_frontend.specs.contracts.session.Session.{the_row};
 ghost use Rattle.vhost_c.specs.Holder.{held};
 
 use crate::loose::Loose;
-use crate::session::Session;
 use std::alloc::Global;
 use std::marker::Model;
 use std::mem::replace;
 use std::ptr::null_mut;
+use vhost_c_frontend::Session;
 
 /// What a program in C holds of a session: `covretin_session`. Null is no session.
 #[repr(C)]

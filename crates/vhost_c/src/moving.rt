@@ -2,7 +2,7 @@
 
 ghost use Rattle.std.specs.Prelude.{◌≡◌};
 ghost use Rattle.vhost_c_common.specs.ByNumber.{By};
-ghost use Rattle.vhost_c.specs.Session.{Sending, Receiving, Getting, Takes, TakesHeld, missing_at, inactive_at};
+ghost use Rattle.vhost_c_frontend.specs.Session.{Sending, Receiving, Getting, Takes, TakesHeld, missing_at, inactive_at};
 
 use crate::holder::Holder;
 use std::alloc::Global;

@@ -1,12 +1,12 @@
 //! Sessions are opened and closed.
 
 ghost use Rattle.std.specs.Prelude.{◌≡◌, None, IfOk};
-ghost use Rattle.vhost_c.specs.Session.{IsNew, Opens};
+ghost use Rattle.vhost_c_frontend.specs.Session.{IsNew, Opens};
 
 use crate::holder::Holder;
-use crate::session::Session;
 use std::alloc::Global;
 use vhost_c_common::{Refusal, number_of};
+use vhost_c_frontend::Session;
 use vhost_message::Error;
 
 /// Opens a session with a backend of at most so many queues.

@@ -2,7 +2,7 @@
 
 ghost use Rattle.vhost_c_common.specs.ByNumber.{By};
 ghost use Rattle.vhost_c_common.specs.Profile.{profile_at};
-ghost use Rattle.vhost_c.specs.Session.{Choosing, ChoosesBy};
+ghost use Rattle.vhost_c_frontend.specs.Session.{Choosing, ChoosesBy};
 
 use crate::holder::Holder;
 use std::alloc::Global;

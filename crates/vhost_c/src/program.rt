@@ -4,7 +4,7 @@ ghost use Rattle.std.specs.Prelude.{◌≡◌, ◌≢◌, ◌<◌, ◌+◌, true
 ghost use Rattle.vhost_c_common.specs.ByNumber.{By};
 ghost use Rattle.vhost_c.specs.Calls.{Appends, AtBoth};
 ghost use Rattle.vhost_c.specs.Program.{Does, IsCalled, ReadsTo, IsSound, is_harmless, ends_none};
-ghost use Rattle.vhost_c.specs.Session.{LettingGo, Sending, Stays};
+ghost use Rattle.vhost_c_frontend.specs.Session.{LettingGo, Sending, Stays};
 
 use crate::answers::{
     covretin_answer_bases, covretin_answer_config, covretin_answer_fd, covretin_answer_inflight,

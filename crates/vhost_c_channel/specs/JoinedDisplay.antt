@@ -141,6 +141,11 @@ pub record UpTo (turns : List Turn) (answered : List (Result DisplayAnswer Refus
   pub outcomes : AllAnswer before answered
   pub halts : Halts turn halt.Silent
 
+-- why calls of a new session were not all done: memory was refused; or the reply of one was too short
+abbrev pub HaltsRun : List Turn → Halt → Type 0
+HaltsRun turns (halt.WantsMemory r) = memory.WantsMemory r
+HaltsRun turns halt.Silent = (answered : List (Result DisplayAnswer Refusal)) × UpTo turns answered
+
 -- what becomes of calls
 abbrev pub DoesAll : List Turn → List (Cell PlainHandle) → List (Result DisplayAnswer Refusal) → Result ⊤ Halt → Display → List (Cell PlainHandle) → List (Result DisplayAnswer Refusal) → Type 0
 DoesAll turns before answers (Ok done) s after answers' = (outcomes : List (Result DisplayAnswer Refusal)) × (answers' ≡ answers ++ outcomes) × AreDone turns before s after outcomes

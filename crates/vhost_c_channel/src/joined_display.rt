@@ -1,6 +1,6 @@
 //! A session with a display, joined to any display: worked consequences of its contracts alone.
 
-ghost use Rattle.std.specs.Prelude.{◌≡◌, ◌<◌, ◌≤◌, ℕ, [], List, All, true, Some, IfOk, length, map};
+ghost use Rattle.std.specs.Prelude.{◌≡◌, ◌<◌, ◌≤◌, ℕ, [], List, All, true, Some, IfOk, IfErr, length, map};
 ghost use Rattle.vhost_message.specs.declared.error.Error.TheVariants.{OutOfMemory};
 ghost use Rattle.vhost_message.specs.declared.limits.TheConstants.{MAX_ATTACHED_FD_ENTRIES};
 ghost use Rattle.vhost_protocol.specs.Gpu.{GpuSent, TheDisplayInfo, TheEdid, gpu_row};
@@ -9,7 +9,7 @@ ghost use Rattle.vhost_gpu_backend_req.specs.Halves.{call_in};
 ghost use Rattle.vhost_c_common.specs.Records.{fd_in};
 ghost use Rattle.vhost_c_common.specs.declared.refusal.Refusal.TheVariants.{Protocol};
 ghost use Rattle.vhost_c_channel.specs.Display.{queued};
-ghost use Rattle.vhost_c_channel.specs.JoinedDisplay.{AreDescriptors, AreDone, AreSendable, Comes, Does, DoesAll, IsAllowed, IsComing, IsHeard, IsIdle, Sends, SendsPiece, Shows, Takes, halted, is_want};
+ghost use Rattle.vhost_c_channel.specs.JoinedDisplay.{AreDescriptors, AreDone, AreSendable, Comes, Does, DoesAll, HaltsRun, IsAllowed, IsComing, IsHeard, IsIdle, Sends, SendsPiece, Shows, Takes, halted, is_want};
 ghost use Rattle.vhost_c_channel.specs.declared.joined_display.Halt.TheVariants.{WantsMemory};
 
 use crate::display::Display;
@@ -57,7 +57,8 @@ pub fn display_run(
     turns: &[Turn<'_>],
     cuts: &[usize],
 ) -> Result<(Display, MemLink, Vec<Outcome<DisplayAnswer>>), Halt>
-    ensures { All IsAllowed turns.now → IfOk result (λ r. AreDone turns.now [] r.0 r.1.pending r.2.items) }
+    ensures done { All IsAllowed turns.now → IfOk result (λ r. AreDone turns.now [] r.0 r.1.pending r.2.items) }
+    ensures halted { All IsAllowed turns.now → IfErr result (HaltsRun turns.now) }
 {
     let mut session = match Display::new(alloc) {
         Ok(session) => session,

@@ -42,14 +42,22 @@ fn none_found<D: Example>(core: &mut SessionCore<MemLink>, device: &mut D) -> bo
     matches!(finds_none(core, device), Err(Error::PartialMessage))
 }
 
+/// A session whose link fails inside a request.
+fn torn(alloc: Global) -> Option<SessionCore<MemLink>> {
+    let cuts = vec![in alloc; Cut::Give(5), Cut::Fault(5)].ok()?;
+    new_core(alloc, &GET, cuts)
+}
+
 /// Whether both are so, over one device.
 fn torn_and_short<D: Example>(alloc: Global) -> Option<([bool; 3], bool)> {
-    let cuts = vec![in alloc; Cut::Give(5), Cut::Fault(5)].ok()?;
-    let mut torn = new_core(alloc, &GET, cuts)?;
+    let mut torn = torn(alloc)?;
     let mut short = new_core(alloc, &GET[..5], Vec::new(alloc))?;
     let mut device = D::fresh(alloc);
-    let stopped = stopped(alloc, &mut torn, &mut device)?;
-    Some((stopped, none_found(&mut short, &mut device)))
+    let is_none = none_found(&mut short, &mut device);
+    match stopped(alloc, &mut torn, &mut device) {
+        Some(stopped) => Some((stopped, is_none)),
+        None => None,
+    }
 }
 
 pub(crate) fn hold<D: Example>(alloc: Global) -> bool {

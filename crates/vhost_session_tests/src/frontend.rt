@@ -46,21 +46,28 @@ fn torn(alloc: Global) -> Option<[Option<(i32, bool)>; 2]> {
     sizes_twice(alloc, cuts)
 }
 
+/// Whether two calls failed since the endpoint is poisoned by the link's error 5.
+fn are_broken(answers: &[Result<u64, Error>]) -> bool {
+    matches!(
+        answers,
+        [
+            Err(Error::SocketBroken(IoCause::Raw(5))),
+            Err(Error::SocketBroken(IoCause::Raw(5)))
+        ]
+    )
+}
+
 /// Whether a call that the link's error 5 stops is answered so, and two after it that the endpoint is poisoned.
 fn asked_broken(alloc: Global, cuts: Vec<Cut>) -> Option<[bool; 2]> {
     let mut quiet = Quiet::new(alloc, MemLink::new(alloc, cuts), 1, 0).ok()?;
-    let first = meets_fault_asking(&mut quiet);
-    let later = asks_broken(alloc, &mut quiet, 2).ok()?;
-    Some([
-        matches!(first, Err(Error::SocketError(IoCause::Raw(5)))),
-        matches!(
-            later.as_slice(),
-            [
-                Err(Error::SocketBroken(IoCause::Raw(5))),
-                Err(Error::SocketBroken(IoCause::Raw(5)))
-            ]
-        ),
-    ])
+    let is_torn = matches!(
+        meets_fault_asking(&mut quiet),
+        Err(Error::SocketError(IoCause::Raw(5)))
+    );
+    match asks_broken(alloc, &mut quiet, 2) {
+        Ok(later) => Some([is_torn, are_broken(&later)]),
+        Err(_) => None,
+    }
 }
 
 /// The same over a link that fails after five bytes.

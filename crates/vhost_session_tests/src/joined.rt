@@ -84,25 +84,29 @@ struct Seen {
     silent: [bool; 3],
 }
 
+/// More of the same sides, where this is whether the list was answered.
+fn see<D: Example>(alloc: Global, joined: &mut Joined<D>, told: bool) -> Option<Seen> {
+    let in_step = are_in_step(joined);
+    let no_ring = no_ring(joined)?;
+    Some(Seen {
+        told,
+        in_step,
+        no_ring,
+        silent: silent_claim(alloc, joined),
+    })
+}
+
 fn seen_over<D: Example>(alloc: Global) -> Option<Seen> {
     let scripts = (Vec::new(alloc), Vec::new(alloc));
+    let (device, calls) = (D::fresh(alloc), twice_claimed());
     let mut answers = Vec::new(alloc);
-    let ran = runs_in_lockstep(
-        alloc,
-        D::fresh(alloc),
-        2,
-        3,
-        scripts,
-        &twice_claimed(),
-        &mut answers,
-    );
-    let (mut joined, ended) = ran.ok()?;
-    Some(Seen {
-        told: ended.is_ok() && are_told(&answers),
-        in_step: are_in_step(&joined),
-        no_ring: no_ring(&mut joined)?,
-        silent: silent_claim(alloc, &mut joined),
-    })
+    match runs_in_lockstep(alloc, device, 2, 3, scripts, &calls, &mut answers) {
+        Ok((mut joined, ended)) => {
+            let told = ended.is_ok() && are_told(&answers);
+            see(alloc, &mut joined, told)
+        }
+        Err(_) => None,
+    }
 }
 
 /// Whether a call fails for which no reply came.

@@ -25,6 +25,13 @@ static FEATURES: [u8; 20] = [
     1, 0, 0, 0, 5, 0, 0, 0, 8, 0, 0, 0, 3, 0, 0, 0x40, 0, 0, 0, 0,
 ];
 
+/// A session on which these bytes came.
+fn brought(alloc: Global, bytes: &[u8]) -> Option<SessionCore<MemLink>> {
+    let mut link = MemLink::new(alloc, Vec::new(alloc));
+    link.push(bytes, &[]).ok()?;
+    SessionCore::new(alloc, link, 40).ok()
+}
+
 /// Whether a handler wrote these bytes.
 fn wrote(core: &mut SessionCore<MemLink>, bytes: &[u8]) -> bool {
     core.endpoint_mut().link().taken().bytes() == bytes
@@ -65,21 +72,26 @@ fn in_halves<D: Example>(alloc: Global) -> Option<[bool; 2]> {
 /// GET_QUEUE_NUM.
 static QUEUES: [u8; 12] = [17, 0, 0, 0, 1, 0, 0, 0, 0, 0, 0, 0];
 
-/// Whether a session under Standard that cannot say how many queues there are ends, says so from then on, and writes nothing.
-fn ended<D: Example>(alloc: Global) -> Option<[bool; 3]> {
-    let mut link = MemLink::new(alloc, Vec::new(alloc));
-    link.push(&QUEUES, &[]).ok()?;
-    let mut core = SessionCore::new(alloc, link, 40).ok()?;
-    core.set_profile(Profile::Standard);
-    let mut device = D::fresh(alloc);
-    let answers = answers_whoever_waits(alloc, &mut core, &mut device, 2).ok()?;
-    let is_right = matches!(
-        answers.as_slice(),
+/// Whether the first request was refused, and the session has ended since.
+fn are_ended(answers: &[Answer<()>]) -> bool {
+    matches!(
+        answers,
         [
             Err(Error::InactiveOperation(_)),
             Err(Error::SocketBroken(IoCause::Raw(71)))
         ]
-    );
+    )
+}
+
+/// Whether a session under Standard that cannot say how many queues there are ends, says so from then on, and writes nothing.
+fn ended<D: Example>(alloc: Global) -> Option<[bool; 3]> {
+    let mut core = brought(alloc, &QUEUES)?;
+    core.set_profile(Profile::Standard);
+    let mut device = D::fresh(alloc);
+    let is_right = match answers_whoever_waits(alloc, &mut core, &mut device, 2) {
+        Ok(answers) => are_ended(&answers),
+        Err(_) => false,
+    };
     Some([is_right, core.failed() == Some(71), wrote(&mut core, &[])])
 }
 
@@ -128,15 +140,22 @@ static AGREE: [u8; 20] = [
 
 static OPEN: [u8; 12] = [21, 0, 0, 0, 1, 0, 0, 0, 0, 0, 0, 0];
 
-/// What a request for the backend channel is answered, which brings a descriptor of this kind.
-fn opened<D: Example>(alloc: Global, kind: Kind) -> Option<Answer<()>> {
-    let mut link = MemLink::new(alloc, Vec::new(alloc));
-    link.push(&AGREE, &[]).ok()?;
+/// A session on which both came, the second with a descriptor of this kind.
+fn to_open(alloc: Global, kind: Kind) -> Option<SessionCore<MemLink>> {
+    let mut core = brought(alloc, &AGREE)?;
+    let link = core.endpoint_mut().link();
     link.push(&OPEN, &[PlainHandle { id: 7, kind }]).ok()?;
-    let mut core = SessionCore::new(alloc, link, 3).ok()?;
+    Some(core)
+}
+
+/// What the request for the backend channel is answered, which brings a descriptor of this kind.
+fn opened<D: Example>(alloc: Global, kind: Kind) -> Option<Answer<()>> {
+    let mut core = to_open(alloc, kind)?;
     let mut device = D::fresh(alloc);
-    opens_its_own(&mut core, &mut device).ok()?;
-    Some(opens_its_own(&mut core, &mut device))
+    match opens_its_own(&mut core, &mut device) {
+        Ok(()) => Some(opens_its_own(&mut core, &mut device)),
+        Err(_) => None,
+    }
 }
 
 /// The number that an answer is.
@@ -147,21 +166,26 @@ fn number_in(answer: &FrontendAnswer) -> Option<u64> {
     }
 }
 
-/// The features that the first call of a joined run is answered, and whether the second is done.
-fn stepped_twice<D: Example>(alloc: Global) -> Option<(u64, bool)> {
-    let scripts = (Vec::new(alloc), Vec::new(alloc));
-    let mut joined = Joined::new(alloc, D::fresh(alloc), 2, 3, scripts).ok()?;
+/// Whether the first call of a joined run is answered the features, and the second is done.
+fn step_twice<D: Example>(joined: &mut Joined<D>) -> [bool; 2] {
     let (first, then) = steps_without_memory(
-        &mut joined,
+        joined,
         &FrontendCall::GetFeatures,
         &FrontendCall::SetOwner,
     );
-    let features = first.ok()?;
-    let second = then?.ok()?;
-    Some((
-        number_in(&features)?,
-        matches!(second, FrontendAnswer::Done),
-    ))
+    [
+        matches!(first, Ok(FrontendAnswer::Number(0x4000_0003))),
+        matches!(then, Some(Ok(FrontendAnswer::Done))),
+    ]
+}
+
+/// The same over a new device.
+fn stepped_twice<D: Example>(alloc: Global) -> Option<[bool; 2]> {
+    let scripts = (Vec::new(alloc), Vec::new(alloc));
+    match Joined::new(alloc, D::fresh(alloc), 2, 3, scripts) {
+        Ok(mut joined) => Some(step_twice(&mut joined)),
+        Err(_) => None,
+    }
 }
 
 /// Two bytes of the configuration space, behind their header and record.
@@ -187,15 +211,24 @@ struct Three {
     found: bool,
 }
 
-/// Caller 7 sets a ring's base, and reads it.
-fn record_three<D: Example>(recorded: &mut Recorded<D>) -> Result<Three, Halt> {
+/// Caller 7 sets a ring's base, and reads it: both serials, and the base.
+fn two_recorded<D: Example>(recorded: &mut Recorded<D>) -> Result<([u64; 2], Option<u64>), Halt> {
     let set = FrontendCall::SetVringBase(0, 9);
     let get = FrontendCall::GetVringBase(0);
-    let (one, two) = records_two(recorded, 7, &set, &get)?;
+    match records_two(recorded, 7, &set, &get) {
+        Ok((one, two)) => Ok(([one.serial(), two.serial()], number_in(two.answer()))),
+        Err(halt) => Err(halt),
+    }
+}
+
+/// Caller 7 sets a ring's base, reads it, and makes a third call.
+fn record_three<D: Example>(recorded: &mut Recorded<D>) -> Result<Three, Halt> {
+    let (serials, base) = two_recorded(recorded)?;
+    let found = finds_own(recorded, 7, &FrontendCall::GetFeatures)?;
     Ok(Three {
-        serials: [one.serial(), two.serial()],
-        base: number_in(two.answer()),
-        found: finds_own(recorded, 7, &FrontendCall::GetFeatures)?,
+        serials,
+        base,
+        found,
     })
 }
 
@@ -231,7 +264,7 @@ pub(crate) fn hold_over<D: Example>(alloc: Global) -> [bool; 6] {
             opened::<D>(alloc, Kind::NotUnix),
             Some(Err(Error::NotUnixSocket))
         ),
-        stepped_twice::<D>(alloc) == Some((0x4000_0003, true)),
+        stepped_twice::<D>(alloc) == Some([true; 2]),
         three_recorded::<D>(alloc) == Ok(three),
     ]
 }

@@ -21,6 +21,8 @@ mod rings;
 #[cfg(test)]
 mod serving;
 #[cfg(test)]
+mod sessions_for_c;
+#[cfg(test)]
 mod shared;
 #[cfg(test)]
 mod sockets;

@@ -60,10 +60,14 @@ fn unanswered(alloc: Global) -> Option<[bool; 3]> {
 fn broken(alloc: Global) -> Option<bool> {
     let cuts = vec![in alloc; Cut::Give(5), Cut::Fault(5)].ok()?;
     let mut channel = channel(alloc, MemLink::new(alloc, cuts), true).ok()?;
-    let torn = adds_object(&mut channel, &name());
-    let later = adds_broken(alloc, &mut channel, &name(), 2).ok()?;
-    let is_torn = matches!(torn, Err(IoError::Of(Error::SocketError(IoCause::Raw(5)))));
-    Some(is_torn && matches!(later.as_slice(), [one, two] if is_broken(one) && is_broken(two)))
+    let is_torn = matches!(
+        adds_object(&mut channel, &name()),
+        Err(IoError::Of(Error::SocketError(IoCause::Raw(5))))
+    );
+    match adds_broken(alloc, &mut channel, &name(), 2) {
+        Ok(later) => Some(is_torn && later.len() == 2 && later.as_slice().iter().all(is_broken)),
+        Err(_) => None,
+    }
 }
 
 /// Whether a call failed since the endpoint is poisoned by that error.

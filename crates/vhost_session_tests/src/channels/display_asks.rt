@@ -28,13 +28,14 @@ fn asked(alloc: Global) -> Option<(u64, bool)> {
 fn broken(alloc: Global) -> Option<bool> {
     let cuts = vec![in alloc; Cut::Give(5), Cut::Fault(5)].ok()?;
     let mut channel = BackendInternal::from_stream(alloc, MemLink::new(alloc, cuts), 0).ok()?;
-    let torn = asks_features(&mut channel);
-    let later = displays_broken(alloc, &mut channel, 2).ok()?;
     let is_torn = matches!(
-        torn,
+        asks_features(&mut channel),
         Err(IoError::In(_, Error::SocketError(IoCause::Raw(5))))
     );
-    Some(is_torn && matches!(later.as_slice(), [one, two] if is_broken(one) && is_broken(two)))
+    match displays_broken(alloc, &mut channel, 2) {
+        Ok(later) => Some(is_torn && later.len() == 2 && later.as_slice().iter().all(is_broken)),
+        Err(_) => None,
+    }
 }
 
 /// Whether a call failed since the endpoint is poisoned by that error.

@@ -1,6 +1,6 @@
 use Rattle.std.proofs.Common.{ap, ◌∙◌}
 use Rattle.vhost_c.specs.Answers.{ReadsFd}
-use Rattle.vhost_c.specs.declared.session.Session.{Session}
+use Rattle.vhost_c_frontend.specs.declared.session.Session.{Session}
 use Rattle.vhost_c_common.proofs.ByNumber.{by-none, by-some}
 use Rattle.vhost_c.proofs.Reading.{reading}
 use Rattle.vhost_c.proofs.answers.covretin_answer_fd.Goals as goal

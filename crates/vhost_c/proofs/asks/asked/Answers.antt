@@ -1,7 +1,7 @@
 use Rattle.std.proofs.Common.{Some, sym, ap, ◌∙◌}
 use Rattle.vhost_frontend_core.specs.Values.{call_of}
-use Rattle.vhost_c.specs.Session.{Asking}
-use Rattle.vhost_c.specs.declared.session.Session.{Session}
+use Rattle.vhost_c_frontend.specs.Session.{Asking}
+use Rattle.vhost_c_frontend.specs.declared.session.Session.{Session}
 use Rattle.vhost_c_common.proofs.ByNumber.{by-none, by-some}
 use Rattle.vhost_c.proofs.asks.asked.Goals as goal
 

@@ -1,6 +1,6 @@
 use Rattle.std.proofs.Common.{Some, Ok, sym, ap, ◌∙◌}
 use Rattle.vhost_c_common.proofs.ByNumber.{by-none, by-some}
-use Rattle.vhost_c.specs.declared.session.Session.{Session}
+use Rattle.vhost_c_frontend.specs.declared.session.Session.{Session}
 use Rattle.vhost_c.proofs.held.covretin_abandon.Goals as goal
 
 pub returns-in-None : goal.returns-in-None

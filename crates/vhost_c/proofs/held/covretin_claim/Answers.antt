@@ -1,8 +1,8 @@
 use Rattle.std.proofs.Common.{Some, ℤ, w32, sym, ap, subst, ◌∙◌}
 use Rattle.std.proofs.lemmas.Int.{to_z-of_z}
-use Rattle.vhost_c.specs.Session.{Claiming}
+use Rattle.vhost_c_frontend.specs.Session.{Claiming}
 use Rattle.vhost_c_common.proofs.ByNumber.{by-none, by-some}
-use Rattle.vhost_c.specs.declared.session.Session.{Session}
+use Rattle.vhost_c_frontend.specs.declared.session.Session.{Session}
 use Rattle.vhost_c.proofs.held.covretin_claim.Goals as goal
 
 pub returns-in-None : goal.returns-in-None

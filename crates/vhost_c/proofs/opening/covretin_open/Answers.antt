@@ -1,5 +1,5 @@
 use Rattle.std.proofs.Common.{Some, None}
-use Rattle.vhost_c.specs.Session.{Opens, opened, was_open, no_room}
+use Rattle.vhost_c_frontend.specs.Session.{Opens, opened, was_open, no_room}
 use Rattle.vhost_c_common.proofs.ByNumber.{as-said}
 use Rattle.vhost_c.proofs.opening.covretin_open.Goals as goal
 

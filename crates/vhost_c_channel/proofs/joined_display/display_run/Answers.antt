@@ -9,8 +9,8 @@ use Rattle.vhost_c_channel.specs.declared.joined_display.DisplayAnswer.{DisplayA
 use Rattle.vhost_c_channel.proofs.JoiningDisplay.{new-idle}
 use Rattle.vhost_c_channel.proofs.joined_display.display_run.Goals as goal
 
-pub returns-in-Ok-display_calls : goal.returns-in-Ok-display_calls
-returns-in-Ok-display_calls c allowed =
+pub returns-in-Ok-display_calls-clause-done : goal.returns-in-Ok-display_calls-clause-done
+returns-in-Ok-display_calls-clause-done c allowed =
     let d = c.in-Ok-display_calls.ensures (new-idle c.in-Ok.session c.in-Ok.ensures.new) allowed in
     let items = d.1 ∙ ap {A = List (Result DisplayAnswer Refusal)} (λ xs. xs ++ d.0) c.new-answers.ensures.items in
     let none = ap {A = Ends} (λ l. l.pending) c.new-display.ensures in

@@ -22,7 +22,7 @@ use denote.Triple.Walked.{Stays, stay_dropped, walk_of, Goes-dropped}
 use Rattle.std.proofs.raw_atomic.Walks.{proved_at, leaves}
 use Rattle.std.specs.declared.option.Option.{Option}
 use Rattle.std.specs.declared.option.Option.TheVariants.{None}
-use Rattle.vhost_c.specs.declared.session.Session.{Session}
+use Rattle.vhost_c_frontend.specs.declared.session.Session.{Session}
 use Rattle.vhost_c.specs.contracts.holder.Holder as handle
 use Rattle.vhost_c.specs.contracts.holder.Holder.empty.{ended, clauses}
 use Rattle.vhost_c.specs.contracts.holder.Holder.empty.Key.{name as #self}

@@ -25,8 +25,8 @@ use Rattle.std.specs.declared.alloc.Global.{Global}
 use Rattle.std.specs.contracts.alloc.Global as heap
 use Rattle.std.proofs.alloc.Global.TheLaws as heap_laws
 use Rattle.std.specs.contracts.impls.GlobalAllocator.TheImpl.{ghosts}
-use Rattle.vhost_c.specs.declared.session.Session.{Session}
-use Rattle.vhost_c.specs.contracts.session.Session as session
+use Rattle.vhost_c_frontend.specs.declared.session.Session.{Session}
+use Rattle.vhost_c_frontend.specs.contracts.session.Session as session
 use Rattle.vhost_c.specs.Holder.{so}
 use Rattle.vhost_c.specs.contracts.holder.Holder.full.{ended, clauses}
 use Rattle.vhost_c.specs.contracts.holder.Holder.full.Key.{name as #self}

@@ -28,7 +28,7 @@ use Rattle.std.specs.declared.option.Option.TheVariants.{None, Some}
 use Rattle.std.specs.contracts.alloc.Global as heap
 use Rattle.std.proofs.alloc.Global.TheLaws as heap_laws
 use Rattle.std.specs.contracts.impls.GlobalAllocator.TheImpl.{ghosts}
-use Rattle.vhost_c.specs.contracts.session.Session as session
+use Rattle.vhost_c_frontend.specs.contracts.session.Session as session
 use Rattle.vhost_c.specs.contracts.holder.Holder as handle
 use Rattle.vhost_c.specs.contracts.holder.Holder.into_loose.{ended, clauses}
 use Rattle.vhost_c.specs.contracts.holder.Holder.into_loose.Key.{name as #self}

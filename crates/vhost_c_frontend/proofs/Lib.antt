@@ -1,0 +1,5 @@
+pub mod Answerable
+pub mod Asking
+pub mod Owning
+pub mod Wants
+mod Names

@@ -1,0 +1,5 @@
+pub mod Awaiting
+pub mod Clients
+pub mod Incoming
+pub mod Session
+pub mod Names

@@ -1,0 +1,4 @@
+pub mod Device
+pub mod Joined
+pub mod Judged
+pub mod Wire
