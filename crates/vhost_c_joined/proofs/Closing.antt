@@ -67,7 +67,7 @@ use Rattle.vhost_c_joined.proofs.Joining as joining
 use Rattle.vhost_c_joined.proofs.Joining.{Sent}
 use Rattle.vhost_c_joined.proofs.Offering.{offers-so}
 use Rattle.vhost_c_joined.proofs.Replying.{IsHeardBy, as-cells, handles_in, heard-by, text_in}
-use Rattle.vhost_c_joined.proofs.Settings.{Has, answered-with, kept-sent}
+use Rattle.vhost_pair.proofs.Settings.{Has, answered-with, kept-sent}
 use Rattle.vhost_c_joined.proofs.Waited.{never-silent}
 use Rattle.vhost_c_joined.proofs.Taken.{Took, Wanted, no-error, same-want, took}
 

@@ -10,7 +10,6 @@ pub mod Lasting
 pub mod Answering
 pub mod Denying
 pub mod Sizes
-pub mod Settings
 pub mod Offering
 pub mod Replying
 pub mod Joining
