@@ -1,11 +1,6 @@
 pub mod Records
 pub mod Arguments
 pub mod Asking
-pub mod Clients
 pub mod Display
 pub mod DisplayRecords
-pub mod JoinedDisplay
 pub mod Serving
-pub mod Wire
-pub mod Joined
-pub mod Crossing

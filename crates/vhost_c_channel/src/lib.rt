@@ -4,16 +4,10 @@
 
 mod arguments;
 mod asking;
-mod clients;
 mod display;
-mod display_clients;
 mod display_records;
-mod joined;
-mod joined_display;
 mod records;
 mod serving;
-mod serving_clients;
-mod wire;
 
 pub use asking::{Channel, Feature};
 pub use display::Display;

@@ -5,6 +5,8 @@
 #[cfg(test)]
 mod backend;
 #[cfg(test)]
+mod channels_for_c;
+#[cfg(test)]
 mod connection;
 #[cfg(test)]
 mod endpoint;

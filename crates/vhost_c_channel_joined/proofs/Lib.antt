@@ -1,0 +1,13 @@
+pub mod JoiningDisplay
+pub mod Noticing
+pub mod Replying
+pub mod Reporting
+pub mod Sizing
+pub mod Pieces
+pub mod Missing
+pub mod Messages
+pub mod Sending
+pub mod Meeting
+pub mod Returning
+pub mod Joining
+pub mod Running

@@ -1,0 +1,5 @@
+pub mod Clients
+pub mod JoinedDisplay
+pub mod Wire
+pub mod Joined
+pub mod Crossing
