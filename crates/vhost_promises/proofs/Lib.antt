@@ -19,7 +19,6 @@ pub mod FaultingAsked
 pub mod FaultingRead
 pub mod FaultingCalled
 pub mod Sharing
-pub mod Showing
 pub mod Listed
 pub mod ListedRead
 pub mod ByScript

@@ -11,7 +11,6 @@ mod faults_asking;
 mod faults_calling;
 mod halves;
 mod joined;
-mod lines;
 mod memory;
 mod opening;
 mod read;
@@ -38,7 +37,6 @@ pub use halves::{answers_by_halves, serves_by_halves};
 pub use joined::{
     refuses_whatever_was, runs_back_in_lockstep, runs_in_lockstep, shows_no_reply, stays_in_step,
 };
-pub use lines::runs_two_lines;
 pub use memory::{asks_without_memory, steps_without_memory};
 pub use opening::opens_its_own;
 pub use read::{reads_features, reads_features_new};

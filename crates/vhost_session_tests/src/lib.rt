@@ -14,6 +14,8 @@ mod frontend;
 #[cfg(test)]
 mod joined;
 #[cfg(test)]
+mod lines;
+#[cfg(test)]
 mod promises;
 #[cfg(test)]
 mod retries;

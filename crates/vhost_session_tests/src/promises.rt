@@ -1,6 +1,7 @@
 //! Worked consequences, each run once with ample memory.
 
 use crate::example::Example;
+use crate::lines::runs_two_lines;
 use std::alloc::Global;
 use vhost_endpoint::Endpoint;
 use vhost_frontend_req_handler::VhostUserFrontendReqHandlerMut;
@@ -13,8 +14,8 @@ use vhost_pair::Joined;
 use vhost_pair_reverse::JoinedReverse;
 use vhost_promises::{
     answers_whoever_waits, back_and_there, finds_own, goes_on_unserved_new, names_request,
-    opens_its_own, records_two, runs_two_lines, same_number, sends_in_one, serves_by_halves,
-    serves_three_new, shares_twice, steps_without_memory,
+    opens_its_own, records_two, same_number, sends_in_one, serves_by_halves, serves_three_new,
+    shares_twice, steps_without_memory,
 };
 use vhost_protocol::Profile;
 use vhost_recorder::{FrontendAnswer, FrontendCall, Halt, Recorded};

@@ -1,14 +1,14 @@
 //! Lines that are run, with the exact output.
 
 ghost use Rattle.std.specs.Prelude.{◌≡◌, IfOk, IfErr};
-ghost use Rattle.vhost_promises.specs.TwoLines.{two_lines_shown};
+ghost use Rattle.vhost_session_tests.specs.TwoLines.{two_lines_shown};
 
 use std::alloc::Global;
 use vhost_lines::run_lines;
 
 /// Runs two lines: the example device is asked for its features, and claimed. Unless the status is 2, the output is exactly what these
 /// lines show.
-pub fn runs_two_lines(alloc: Global) -> Result<Vec<u8>, u8>
+pub(crate) fn runs_two_lines(alloc: Global) -> Result<Vec<u8>, u8>
     ensures output { IfOk result (λ output. output.items ≡ two_lines_shown) }
     ensures status { IfErr result (λ status. status ≡ 2) }
 {

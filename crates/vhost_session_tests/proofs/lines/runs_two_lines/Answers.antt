@@ -2,9 +2,9 @@
 use Rattle.std.proofs.Common.{Some, subst, arith, ◌∙◌}
 use Rattle.vhost_protocol.specs.declared.profile.Profile.TheVariants.{Vhost}
 use Rattle.vhost_lines.specs.Run.{ShowsLines}
-use Rattle.vhost_promises.specs.TwoLines.{two_lines}
-use Rattle.vhost_promises.proofs.Showing.{no-bad, only-two, shown-lines}
-use Rattle.vhost_promises.proofs.lines.runs_two_lines.Goals as goal
+use Rattle.vhost_session_tests.specs.TwoLines.{two_lines}
+use Rattle.vhost_session_tests.proofs.Showing.{no-bad, only-two, shown-lines}
+use Rattle.vhost_session_tests.proofs.lines.runs_two_lines.Goals as goal
 
 pub returns-then-status-eq0-clause-output : goal.returns-then-status-eq0-clause-output
 returns-then-status-eq0-clause-output c =

@@ -29,7 +29,7 @@ use Rattle.vhost_lines.specs.Session.{copies, spares}
 use Rattle.vhost_lines.specs.Shown.{good_lines, line_text}
 use Rattle.vhost_promises.specs.Example.{Device, asking, owner_request, serving}
 use Rattle.vhost_promises.specs.Served.{features_request, features_reply}
-use Rattle.vhost_promises.specs.TwoLines.{two_lines, two_lines_shown}
+use Rattle.vhost_session_tests.specs.TwoLines.{two_lines, two_lines_shown}
 use Rattle.vhost_promises.proofs.Claiming.{features-step, number_in, owner-step, read}
 
 -- an answer by its value
