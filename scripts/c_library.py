@@ -21,9 +21,9 @@ import tempfile
 import time
 
 from assembly import INLINED, assembly, keeping
+from build import PARTS, TOP, crates_below, is_current, kit, rlib, words_over
 from verdict import LISTING, verdict_of
 
-TOP = os.path.dirname(os.path.dirname(os.path.abspath(__file__)))
 NAME = "vhost_c"
 CRATE = f"{TOP}/crates/{NAME}"
 ARCHIVE = f"{CRATE}/out/lib{NAME}.a"
@@ -39,67 +39,25 @@ def stop(why):
     sys.exit(3)
 
 
-def used():
-    """Which libraries each crate uses, as crates.txt has it."""
-    found = {}
-    with open(f"{TOP}/crates.txt", encoding="utf-8") as lines:
-        for line in lines:
-            head, colon, names = line.partition("#")[0].partition(":")
-            if colon:
-                found[head.split()[0]] = names.split()
-    return found
-
-
-def below(name, uses):
-    """The repository's crates below one, each behind those that it uses."""
-    found = []
-    for it in uses[name]:
-        if it in uses:
-            found += [each for each in [*below(it, uses), it] if each not in found]
-    return found
-
-
-def is_current(made, names):
-    """Whether a file or folder is there, and no source of these crates is newer."""
-    if not os.path.exists(made):
-        return False
-    sources = [f"{TOP}/crates.txt"]
-    for name in names:
-        for part in ("src", "specs", "proofs"):
-            for at, _, files in os.walk(f"{TOP}/crates/{name}/{part}"):
-                sources += [at, *(f"{at}/{it}" for it in files)]
-    return all(os.stat(it).st_mtime <= os.stat(made).st_mtime for it in sources)
-
-
-def rlib(name):
-    return f"{TOP}/crates/{name}/out/rlib/{name}.rlib"
-
-
 def run(folder, *words):
     """What a command wrote, and whether it succeeded."""
     ran = subprocess.run(words, cwd=folder, stdin=subprocess.DEVNULL, stdout=subprocess.PIPE, stderr=subprocess.STDOUT, text=True, errors="replace")
     return ran.stdout, ran.returncode == 0
 
 
-def over_libraries(kit, uses, archive, toolchain):
+def over_libraries(archive, toolchain):
     """Proves and builds it over the libraries that are there."""
-    words = ["--crate-name", NAME, "src/lib.rt", "--crate-type", "staticlib", "--cpu", CPU, "--links", f"{NAME}=", "--backend", "llvm", LISTING]
-    for it in ["std", *uses[NAME]]:
-        words += ["--extern", f"{it}={rlib(it) if it in uses else f'{kit}/rlibs/{it}.rlib'}"]
-    for it in [f"{kit}/rlibs", *(os.path.dirname(rlib(it)) for it in below(NAME, uses))]:
-        words += ["-L", f"dependency={it}"]
-    words += ["--antt-project", f"{kit}/rattle/logic/antt-project.json", "--logic-built", f"{kit}/logic_built", "--toolchain", toolchain]
-    jobs = os.environ.get("RT_JOBS") or min(len(os.sched_getaffinity(0)), 4)
-    words += ["--jobs", str(jobs), "-o", archive]
+    words = [*words_over(NAME, kit()), "--cpu", CPU, "--backend", "llvm", LISTING, "--toolchain", toolchain]
+    words += ["--jobs", os.environ.get("RT_JOBS") or str(min(len(os.sched_getaffinity(0)), 4)), "-o", archive]
     # (with work that checks kept it takes a minute, and then the checker's line says so)
     words += ["--incremental", "out/incremental"] if os.path.isdir(f"{CRATE}/out/incremental") else []
     os.makedirs(os.path.dirname(archive), exist_ok=True)
-    return run(CRATE, f"{kit}/bin/rattle", "build", *words)
+    return run(CRATE, f"{kit()}/bin/rattle", "build", *words)
 
 
-def libraries(uses):
+def libraries():
     """Builds each library below it. What was said of the last one, and whether all are there."""
-    names = below(NAME, uses)
+    names = crates_below(NAME)[:-1]
     jobs = ["--jobs", os.environ["RT_JOBS"]] if os.environ.get("RT_JOBS") else []
     said = ""
     for count, name in enumerate(names, 1):
@@ -112,30 +70,30 @@ def libraries(uses):
     return said, True
 
 
-def build(kit, uses, names):
+def build():
     """Proves and builds the library, with those below it where they are not there."""
-    is_there = all(is_current(rlib(it), [*below(it, uses), it]) for it in names[:-1])
-    said, is_built = ("", True) if is_there else libraries(uses)
+    is_there = all(is_current(it, rlib(it), PARTS) for it in crates_below(NAME)[:-1])
+    said, is_built = ("", True) if is_there else libraries()
     # (`rt` refuses a crate's folder that has links)
     with tempfile.TemporaryDirectory() as room:
         if is_built:
-            keeping(f"{kit}/toolchain", f"{room}/toolchain", INLINED)
-            said, is_built = over_libraries(kit, uses, ARCHIVE, f"{room}/toolchain")
+            keeping(f"{kit()}/toolchain", f"{room}/toolchain", INLINED)
+            said, is_built = over_libraries(ARCHIVE, f"{room}/toolchain")
         verdict = verdict_of(said)
         if not is_built or not verdict:
             print(said, end="", file=sys.stderr)
             stop("not proved, or not built")
         with open(ASSEMBLY, "w", encoding="utf-8") as it:
-            it.write(assembly(f"{kit}/toolchain", f"{room}/toolchain", INLINED))
+            it.write(assembly(f"{kit()}/toolchain", f"{room}/toolchain", INLINED))
     with open(VERDICT, "w", encoding="utf-8") as it:
         it.write(verdict)
 
 
-def watch(kit, uses):
+def watch():
     """Builds it once more, with a counter at each branch."""
     with tempfile.TemporaryDirectory() as room:
-        keeping(f"{kit}/toolchain", f"{room}/toolchain", "-fsanitize-coverage=inline-8bit-counters,pc-table")
-        said, is_built = over_libraries(kit, uses, WATCHED, f"{room}/toolchain")
+        keeping(f"{kit()}/toolchain", f"{room}/toolchain", "-fsanitize-coverage=inline-8bit-counters,pc-table")
+        said, is_built = over_libraries(WATCHED, f"{room}/toolchain")
     if not is_built:
         print(said, end="", file=sys.stderr)
         stop("not built with counters")
@@ -145,21 +103,18 @@ def main(words):
     if words not in ([], ["--current"], ["--watched"]):
         print("usage: c_library.py [--current | --watched]", file=sys.stderr)
         sys.exit(3)
-    uses = used()
-    names = [*below(NAME, uses), NAME]
-    are_there = all(is_current(it, names) for it in (ARCHIVE, VERDICT, ASSEMBLY))
+    are_there = all(is_current(NAME, it, PARTS) for it in (ARCHIVE, VERDICT, ASSEMBLY))
     if words == ["--current"]:
         sys.exit(0 if are_there else 1)
     if not shutil.which("rt"):
         stop("the command rt of the Rattle kit is not on PATH")
-    kit = os.path.dirname(run(TOP, "rt", "doc")[0].strip())
     began = time.time()
     made = []
     if not are_there:
-        build(kit, uses, names)
+        build()
         made += [ARCHIVE, VERDICT, ASSEMBLY]
-    if words == ["--watched"] and not is_current(WATCHED, names):
-        watch(kit, uses)
+    if words == ["--watched"] and not is_current(NAME, WATCHED, PARTS):
+        watch()
         made.append(WATCHED)
     # (what is changed while it is built is newer)
     for it in made:

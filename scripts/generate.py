@@ -13,7 +13,8 @@ In a machine's folder NAME.s is the code; NAME.verdict has the functions in C th
 what is proved; and NAME.sources the sum of the sources that it was made of, and the kit that proved it. What is made depends on nothing else, and names no place.
 
 The libraries below have to be there, as ./test leaves them. For x86_64 the library is what scripts/c_library.py builds, which proves it
-where a source is newer. Each of the others is a proof of its last crate: a minute or two of one processor, and five for aarch64.
+where a source is newer. Each of the others is a proof of its last crate: a minute or two of one processor, and some ten of the library for
+aarch64.
 
 Status 0; 1 where something differs or is not current; 2 after wrong arguments; 3 where something is missing, or was not proved.
 """
@@ -23,9 +24,10 @@ import shutil
 import subprocess
 import sys
 import tempfile
+from concurrent.futures import ThreadPoolExecutor
 
 from assembly import INLINED, assembly, keeping
-from build import TOP, crates_below, dependencies, kit
+from build import PARTS, TOP, crates_below, dependencies, kit, rlib, root_of, words_over
 from verdict import LISTING, verdict_of
 
 # The crate of each, with the kind, target and processor of its code: it runs on every processor of the family.
@@ -64,7 +66,7 @@ def sum_of(crate):
     found = hashlib.sha256()
     for name in crates_below(crate):
         found.update(f"{name}: {' '.join(dependencies()[name])}\n".encode())
-        for part in ("src", "specs", "proofs"):
+        for part in PARTS:
             for at, folders, files in os.walk(f"{TOP}/crates/{name}/{part}"):
                 folders.sort()
                 for file in sorted(files):
@@ -96,24 +98,12 @@ def program(name):
     return made
 
 
-def rlib(crate):
-    return f"{TOP}/crates/{crate}/out/rlib/{crate}.rlib"
-
-
 def words_of(crate, kit_folder, of, toolchain, made):
-    """The checker's words that prove and build the crate, over the libraries that are there."""
-    uses, (target, cpu) = dependencies(), of
-    lacking = [it for it in crates_below(crate)[:-1] if not os.path.isdir(rlib(it))]
+    """The checker's words that prove and build the crate."""
+    lacking, (target, cpu) = [it for it in crates_below(crate)[:-1] if not os.path.isdir(rlib(it))], of
     if lacking:
         stop(f"{lacking[0]} is not built: ./test builds it")
-    root = "src/main.rt" if os.path.isfile(f"{TOP}/crates/{crate}/src/main.rt") else "src/lib.rt"
-    words = ["--crate-name", crate, root, *(["--crate-type", "staticlib"] if root == "src/lib.rt" else [])]
-    words += ["--target", target, "--cpu", cpu, "--links", f"{crate}=", "--backend", "llvm", LISTING]
-    for it in ["std", *uses[crate]]:
-        words += ["--extern", f"{it}={rlib(it) if it in uses else f'{kit_folder}/rlibs/{it}.rlib'}"]
-    for it in [f"{kit_folder}/rlibs", *(os.path.dirname(rlib(it)) for it in crates_below(crate)[:-1])]:
-        words += ["-L", f"dependency={it}"]
-    words += ["--antt-project", f"{kit_folder}/rattle/logic/antt-project.json", "--logic-built", f"{kit_folder}/logic_built"]
+    words = [*words_over(crate, kit_folder), "--target", target, "--cpu", cpu, "--backend", "llvm", LISTING]
     return [*words, "--toolchain", toolchain, "--jobs", os.environ.get("RT_JOBS") or str(min(len(os.sched_getaffinity(0)), 4)), "-o", made]
 
 
@@ -122,7 +112,7 @@ def prove(name, room):
     crate, of = MADE[name]
     kit_folder, folder = kit(), f"{room}/toolchain"
     # (of a program the checker makes an object)
-    made = f"{room}/made.{'o' if os.path.isfile(f'{TOP}/crates/{crate}/src/main.rt') else 'a'}"
+    made = f"{room}/made.{'o' if root_of(crate) == 'src/main.rt' else 'a'}"
     flags = INLINED if crate == "vhost_c" else ""
     keeping(f"{kit_folder}/toolchain", folder, flags)
     words = [f"{kit_folder}/bin/rattle", "build", *words_of(crate, kit_folder, of, folder, made)]
@@ -193,6 +183,13 @@ def compare(name):
     return held
 
 
+def compare_all():
+    """Compares all side by side, in a process each, which is less work than several for one: whether each is the code that is proved now."""
+    os.environ.setdefault("RT_JOBS", "1")
+    with ThreadPoolExecutor(len(os.sched_getaffinity(0))) as pool:
+        return list(pool.map(compare, sorted(MADE, key=lambda it: MADE[it][0] != "vhost_c")))
+
+
 def main(words):
     if words[:1] == ["--current"] and len(words) == 2 and words[1] in MADE:
         return 0 if is_current(words[1]) else 1
@@ -201,7 +198,7 @@ def main(words):
         print(made or "", end="\n" if made else "")
         return 0 if made else 1
     if words == ["--compare"]:
-        held = [compare(it) for it in MADE]
+        held = compare_all()
         print(f"{held.count(True)} passed, {held.count(False)} failed")
         return 0 if all(held) else 1
     if any(it not in MADE for it in words):

@@ -10,10 +10,7 @@ import tempfile
 from concurrent.futures import ThreadPoolExecutor
 from dataclasses import dataclass
 
-from build import TOP, crates_below, dependencies, is_current
-
-# The folders that a check reads.
-PARTS = ("src", "specs", "proofs")
+from build import PARTS, TOP, crates_below, dependencies, is_current, rlib, words_over
 
 # The mutant of each crate that means the same as the code, so that nothing may refuse it.
 HARMLESS = "harmless"
@@ -176,24 +173,6 @@ def rounds_of(mutants):
     return rounds
 
 
-def rlib(crate):
-    return f"{TOP}/crates/{crate}/out/rlib/{crate}.rlib"
-
-
-def words_for(kit, crate):
-    """The words for a check of a crate over the libraries that are built."""
-    uses = dependencies()
-    root = "src/main.rt" if os.path.isfile(f"{TOP}/crates/{crate}/src/main.rt") else "src/lib.rt"
-    words = ["--crate-name", crate, root, "--links", f"{crate}=", "--jobs", "1"]
-    if re.search(rf"(?m)^{crate} staticlib\b", read(f"{TOP}/crates.txt")):
-        words += ["--crate-type", "staticlib"]
-    for name in ["std", *uses[crate]]:
-        words += ["--extern", f"{name}={rlib(name) if name in uses else f'{kit}/rlibs/{name}.rlib'}"]
-    for folder in [f"{kit}/rlibs", *(os.path.dirname(rlib(it)) for it in crates_below(crate)[:-1])]:
-        words += ["-L", f"dependency={folder}"]
-    return [*words, "--antt-project", f"{kit}/rattle/logic/antt-project.json", "--logic-built", f"{kit}/logic_built"]
-
-
 def edited(mutants, room):
     """Copies a crate into a folder, and edits it there."""
     crate = f"{TOP}/crates/{mutants[0].crate}"
@@ -206,15 +185,15 @@ def edited(mutants, room):
             changed.write(text)
 
 
-def check(kit, mutants):
-    """Checks the functions that these mutants of a crate change: what the checker tells."""
+def check(kit, mutants, kept):
+    """Checks the functions that these mutants of a crate change, over what earlier checks of it kept, if they did: what the checker tells."""
     crate = mutants[0].crate
     with tempfile.TemporaryDirectory(prefix="mutants-") as room:
         try:
             edited(mutants, room)
         except Broken as why:
             return f"error: {why}"
-        words = [f"{kit}/bin/rattle", "check", *words_for(kit, crate)]
+        words = [f"{kit}/bin/rattle", "check", *words_over(crate, kit), "--jobs", "1", *(["--incremental", kept] if kept else [])]
         for function in dict.fromkeys(function for it in mutants for function in it.functions):
             words += ["--only", function.name]
         with open(f"{room}/told", "w+", encoding="utf-8", errors="replace") as told:
@@ -272,16 +251,22 @@ def is_well(mutant, result):
     return result == (PROVED if mutant.is_harmless() else REFUSED)
 
 
-def tried(kit, mutants):
+def tried(kit, mutants, kept=None):
     """Tries mutants of a crate in one check: the result of each. Those that it did not refuse are tried once more without the others,
     since what calls a function that is not proved may be left open; and each by itself where none was refused."""
-    told = check(kit, mutants)
+    told = check(kit, mutants, kept)
     results = {it.path: judged(it, told) for it in mutants}
     left = [it for it in mutants if results[it.path] != REFUSED and not it.is_harmless()]
     groups = [[it] for it in left] if len(left) == len(mutants) else [left]
     for group in groups if left and len(mutants) > 1 else []:
-        results.update(tried(kit, group))
+        results.update(tried(kit, group, kept))
     return results
+
+
+def tried_in_turn(kit, rounds):
+    """Tries the checks of a crate one after another, where each takes what the others proved: the results of each."""
+    with tempfile.TemporaryDirectory(prefix="mutants-kept-") as kept:
+        return [tried(kit, it, kept if len(rounds) > 1 else None) for it in rounds]
 
 
 def every_mutant(broken):
@@ -310,14 +295,14 @@ def size_of(crate):
 
 
 def all_rounds(mutants, words):
-    """The checks that try what is named, each crate's with its harmless mutant in the first of them. Those of large crates come first, since
-    they are the longest, and one that began last would keep the other processors waiting."""
-    rounds = []
+    """The checks of each crate that try what is named, with its harmless mutant in the first of them. Large crates come first, since their
+    checks are the longest, and one that began last would keep the other processors waiting."""
+    found = []
     for crate in dependencies():
         own = [it for it in mutants if it.crate == crate]
         named = [it for it in own if is_named(it, words) and not it.is_harmless()]
-        rounds += rounds_of([*(it for it in own if it.is_harmless()), *named]) if named else []
-    return sorted(rounds, key=lambda it: -size_of(it[0].crate))
+        found += [rounds_of([*(it for it in own if it.is_harmless()), *named])] if named else []
+    return sorted(found, key=lambda it: -size_of(it[0][0].crate))
 
 
 def lacking(crates):
@@ -340,8 +325,8 @@ def main(kit, jobs, words):
         if not any(is_named(it, [word]) for it in mutants):
             print(f"test-mutants: there is nothing named {word}: a mutant, or a crate that has some", file=sys.stderr)
             return 2
-    rounds = all_rounds(mutants, words)
-    missing = lacking({it[0].crate for it in rounds})
+    crates = all_rounds(mutants, words)
+    missing = lacking({it[0][0].crate for it in crates})
     if missing:
         print(f"test-mutants: run ./test first: not built, or older than its sources: {' '.join(missing)}", file=sys.stderr)
         return 3
@@ -349,11 +334,11 @@ def main(kit, jobs, words):
     for path, why in sorted(broken.items()):
         print(f"FAILED {path}: {why}", flush=True)
     with ThreadPoolExecutor(jobs) as pool:
-        for tried_together, results in zip(rounds, pool.map(lambda it: tried(kit, it), rounds)):
-            for it in tried_together:
-                print(told_of(it, results[it.path]), flush=True)
-                passed += is_well(it, results[it.path])
-                failed += not is_well(it, results[it.path])
+        for rounds, found in zip(crates, pool.map(lambda it: tried_in_turn(kit, it), crates)):
+            for it, result in [(it, results[it.path]) for tried_together, results in zip(rounds, found) for it in tried_together]:
+                print(told_of(it, result), flush=True)
+                passed += is_well(it, result)
+                failed += not is_well(it, result)
     print(f"{passed} passed, {failed} failed")
     return 1 if failed else 0
 
