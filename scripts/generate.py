@@ -27,7 +27,7 @@ import tempfile
 from concurrent.futures import ThreadPoolExecutor
 
 from assembly import INLINED, assembly, keeping
-from build import PARTS, TOP, crates_below, dependencies, kit, rlib, root_of, words_over
+from build import PARTS, TOP, crates_below, dependencies, kit, lacking, root_of, words_over
 from verdict import LISTING, verdict_of
 
 # The crate of each, with the kind, target and processor of its code: it runs on every processor of the family.
@@ -100,16 +100,22 @@ def program(name):
 
 def words_of(crate, kit_folder, of, toolchain, made):
     """The checker's words that prove and build the crate."""
-    lacking, (target, cpu) = [it for it in crates_below(crate)[:-1] if not os.path.isdir(rlib(it))], of
-    if lacking:
-        stop(f"{lacking[0]} is not built: ./test builds it")
+    target, cpu = of
     words = [*words_over(crate, kit_folder), "--target", target, "--cpu", cpu, "--backend", "llvm", LISTING]
     return [*words, "--toolchain", toolchain, "--jobs", os.environ.get("RT_JOBS") or str(min(len(os.sched_getaffinity(0)), 4)), "-o", made]
+
+
+def need_libraries(crates):
+    """Stops where a library below these crates is not there, or is older than its sources."""
+    missing = lacking(crates)
+    if missing:
+        stop(f"run ./test first: not built, or older than its sources: {' '.join(missing)}")
 
 
 def prove(name, room):
     """Proves and builds one: the object or archive, the same as assembly, and the checker's verdict."""
     crate, of = MADE[name]
+    need_libraries([crate])
     kit_folder, folder = kit(), f"{room}/toolchain"
     # (of a program the checker makes an object)
     made = f"{room}/made.{'o' if root_of(crate) == 'src/main.rt' else 'a'}"
@@ -185,6 +191,8 @@ def compare(name):
 
 def compare_all():
     """Compares all side by side, in a process each, which is less work than several for one: whether each is the code that is proved now."""
+    # (c_library.py would build a library anew that others read)
+    need_libraries([crate for crate, _ in MADE.values()])
     os.environ.setdefault("RT_JOBS", "1")
     with ThreadPoolExecutor(len(os.sched_getaffinity(0))) as pool:
         return list(pool.map(compare, sorted(MADE, key=lambda it: MADE[it][0] != "vhost_c")))

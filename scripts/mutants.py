@@ -10,7 +10,7 @@ import tempfile
 from concurrent.futures import ThreadPoolExecutor
 from dataclasses import dataclass
 
-from build import PARTS, TOP, crates_below, dependencies, is_current, rlib, words_over
+from build import PARTS, TOP, dependencies, lacking, words_over
 
 # The mutant of each crate that means the same as the code, so that nothing may refuse it.
 HARMLESS = "harmless"
@@ -303,12 +303,6 @@ def all_rounds(mutants, words):
         named = [it for it in own if is_named(it, words) and not it.is_harmless()]
         found += [rounds_of([*(it for it in own if it.is_harmless()), *named])] if named else []
     return sorted(found, key=lambda it: -size_of(it[0][0].crate))
-
-
-def lacking(crates):
-    """The libraries that these crates stand on and that are not built, or older than their sources."""
-    below = {it for crate in crates for it in crates_below(crate)[:-1]}
-    return [it for it in dependencies() if it in below and not is_current(it, rlib(it), PARTS)]
 
 
 def told_of(mutant, result):
