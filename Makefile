@@ -2,10 +2,11 @@
 # The library for programs in C: the proved part as assembly (generated/) and the C of c/. It needs make and a C compiler.
 #
 #   make                  build/: libcovretin.a, libcovretin.so, covretin.pc
-#   make programs         build/covretin-ask; and for x86-64 build/vhost-run and build/vhost-daemon, which are proved
+#   make programs         build/covretin-ask; the devices covretin-blk (with io_uring where liburing is there), covretin-rng, covretin-net
+#                         and covretin-console; and for x86-64 vhost-run and vhost-daemon, which are proved
 #   make check            the tests in C
-#   make install          all of these, and covretin, which runs them, to PREFIX, or BINDIR, LIBDIR, INCLUDEDIR, DATADIR, MANDIR; below
-#                         DESTDIR; also build/covretin-tap, where cargo's was put there
+#   make install          all of these, and covretin, which runs them, to PREFIX, or BINDIR, LIBDIR, INCLUDEDIR, DATADIR, MANDIR, UNITDIR;
+#                         below DESTDIR; also build/covretin-tap and covretin-check, where cargo's were put there
 #   make uninstall        removes what that put there
 #   make dist             covretin-VERSION.tar.xz, the same bytes wherever it is made, and SHA256SUMS
 #   make crate            the package for Rust as cargo packs it, in rust/target/package; CARGO names another cargo, with its options
@@ -21,6 +22,7 @@ BINDIR ?= $(PREFIX)/bin
 LIBDIR ?= $(PREFIX)/lib
 INCLUDEDIR ?= $(PREFIX)/include
 DATADIR ?= $(PREFIX)/share
+UNITDIR ?= $(PREFIX)/lib/systemd/system
 DOCDIR ?= $(DATADIR)/doc/covretin
 MANDIR ?= $(DATADIR)/man
 DESTDIR ?=
@@ -28,6 +30,11 @@ INSTALL ?= install
 CFLAGS ?= -O2
 OBJCOPY ?= $(shell $(CC) -print-prog-name=objcopy)
 BUILD ?= build
+
+LACKING := $(shell CC='$(CC)' scripts/needs.sh cc headers ar sha256sum 2>&1)
+ifneq ($(LACKING),)
+$(error $(LACKING))
+endif
 
 # Which folder of generated/ fits what the compiler makes code for.
 MACHINE := $(shell printf '%s\n' '\#if !defined __linux__ || defined __ILP32__' none '\#elif defined __x86_64__' x86_64 \
@@ -39,14 +46,20 @@ endif
 
 GLUE := covretin_socket covretin_backend_socket covretin_channel_socket covretin_display_socket covretin_serving \
     covretin_transport covretin_text covretin_memory \
-    covretin_device covretin_device_calls covretin_device_channel covretin_device_inflight covretin_device_memory covretin_device_rings
+    covretin_device covretin_device_calls covretin_device_channel covretin_device_inflight covretin_log covretin_device_memory covretin_device_rings
 # (queues are a proved library of their own)
 OBJECTS := $(BUILD)/proved.o $(BUILD)/proved_queue.o $(GLUE:%=$(BUILD)/%.o)
 # Assembly is told the machine, and wants no debug information, which would name this folder.
 OF_MACHINE := $(filter -m% --target=% -target%,$(CFLAGS))
-COMPILE = $(CC) -std=gnu11 -Wall -Wextra -pedantic -ffile-prefix-map=$(CURDIR)=. $(CPPFLAGS) $(CFLAGS) -fPIC -Iinclude
+# As in the proved code, a branch lands where one may, and return addresses are guarded. An object is protected where all of it is.
+PROTECTION := $(if $(filter x86_64,$(MACHINE)),-fcf-protection,-mbranch-protection=standard)
+COMPILE = $(CC) -std=gnu11 -Wall -Wextra -pedantic -ffile-prefix-map=$(CURDIR)=. $(PROTECTION) $(CPPFLAGS) $(CFLAGS) -fPIC -Iinclude
 
 all: $(BUILD)/libcovretin.a $(BUILD)/$(SHARED) $(BUILD)/covretin.pc
+
+# The verdict of proved code has the sum of its file. Another file is not built, since nothing is known of it.
+IS_PROVED = @cd $(<D) && grep '  $(<F)$$' $(basename $(<F)).verdict | sha256sum -c >/dev/null 2>&1 || \
+    { echo '$<: not the file that was proved: its sum is not that of $(basename $<).verdict' >&2; exit 1; }
 
 # With PROVED, the archive that the checker made in the place of generated/.
 ifdef PROVED
@@ -54,12 +67,14 @@ $(BUILD)/proved.o: $(PROVED)
 	@mkdir -p $(BUILD)
 	$(CC) $(OF_MACHINE) -r -nostdlib -o $@ -Wl,--whole-archive $< -Wl,--no-whole-archive
 else
-$(BUILD)/proved.o: $(GENERATED)/covretin.s
+$(BUILD)/proved.o: $(GENERATED)/covretin.s $(GENERATED)/covretin.verdict
+	$(IS_PROVED)
 	@mkdir -p $(BUILD)
 	$(CC) $(OF_MACHINE) -c -o $@ $<
 endif
 
-$(BUILD)/proved_queue.o: $(GENERATED)/covretin_queue.s
+$(BUILD)/proved_queue.o: $(GENERATED)/covretin_queue.s $(GENERATED)/covretin_queue.verdict
+	$(IS_PROVED)
 	@mkdir -p $(BUILD)
 	$(CC) $(OF_MACHINE) -c -o $@ $<
 
@@ -89,7 +104,8 @@ $(BUILD)/covretin.pc: FORCE
 	    'Description: both sides of vhost-user, with proofs' 'Version: $(VERSION)' 'Cflags: -I$${includedir}' \
 	    'Libs: -L$${libdir} -lcovretin' 'Libs.private: -pthread' >$@
 
-PROGRAMS := covretin-ask $(notdir $(basename $(wildcard $(GENERATED)/vhost-*.s)))
+DEVICES := covretin-blk covretin-rng covretin-net covretin-console
+PROGRAMS := covretin-ask $(DEVICES) $(notdir $(basename $(wildcard $(GENERATED)/vhost-*.s)))
 programs: $(PROGRAMS:%=$(BUILD)/%)
 
 # It notes the bytes that go through the glue, so it is linked with its objects.
@@ -97,24 +113,52 @@ ASKING := $(BUILD)/proved.o $(BUILD)/covretin_transport.o $(BUILD)/covretin_text
 $(BUILD)/covretin-ask: $(BUILD)/ask.o $(BUILD)/ask_calls.o $(ASKING)
 	$(CC) $(CFLAGS) $(LDFLAGS) -pthread -o $@ $^
 
+# The examples' devices behind one main program.
+URING := $(shell $(CC) $(CPPFLAGS) $(CFLAGS) -E -include liburing.h -x c /dev/null >/dev/null 2>&1 && echo -luring)
+$(BUILD)/covretin-blk: c/tools/disk.c c/blk.c
+$(BUILD)/covretin-blk: LIBRARIES := $(URING)
+$(BUILD)/covretin-rng: c/tools/entropy.c c/rng.c
+$(BUILD)/covretin-net: c/tools/card.c
+$(BUILD)/covretin-console: c/tools/console.c
+$(DEVICES:%=$(BUILD)/%): c/tools/program.c c/tools/program.h $(BUILD)/libcovretin.a
+	$(COMPILE) $(LDFLAGS) -pthread -o $@ $(filter c/tools/%.c,$^) $(BUILD)/libcovretin.a $(LIBRARIES)
+
+# (vhost-daemon tells of itself)
+$(BUILD)/vhost-run: $(BUILD)/vhost_run_about.o
 $(BUILD)/vhost-%: $(GENERATED)/vhost-%.s $(BUILD)/covretin_program.o $(BUILD)/covretin_memory.o
+	$(IS_PROVED)
 	$(CC) $(OF_MACHINE) -c -o $@.o $<
-	$(CC) $(CFLAGS) $(LDFLAGS) -pthread -o $@ $@.o $(BUILD)/covretin_program.o $(BUILD)/covretin_memory.o
+	$(CC) $(CFLAGS) $(LDFLAGS) -pthread -o $@ $@.o $(filter %.o,$^)
 	rm -f $@.o
 
 check: all
-	CC='$(CC)' AR='$(AR)' ./test-c
+	@CC='$(CC)' AR='$(AR)' ./test-c --groups
 
-FOLDERS = $(BINDIR) $(LIBDIR)/pkgconfig $(INCLUDEDIR) $(DATADIR)/covretin $(DOCDIR)/examples $(MANDIR)/man1 $(MANDIR)/man7
+BACKENDS = $(DATADIR)/qemu/vhost-user
+FOLDERS = $(BINDIR) $(LIBDIR)/pkgconfig $(INCLUDEDIR) $(DATADIR)/covretin $(BACKENDS) $(UNITDIR) $(DOCDIR)/examples $(MANDIR)/man1 $(MANDIR)/man7
 HEADERS := $(wildcard include/*.h)
 EXAMPLES := c/frontend.c c/rng.c c/blk.c c/net.c c/covretin_transport.h
+DESCRIPTORS := $(notdir $(wildcard c/tools/*.json))
+UNITS := $(foreach name,covretin-blk covretin-rng covretin-console,$(name)@.service $(name)@.socket)
+TITLE_covretin-blk := Disk
+TITLE_covretin-rng := Source of entropy
+TITLE_covretin-console := Console
+OPTIONS_covretin-blk := --blk-file=/var/lib/covretin-blk/%i/disk.raw
+OPTIONS_covretin-console := --console=/var/lib/covretin-console/%i/console.sock
+
+# Units of systemd, of a device each. A network card has none: who may use its other end is for its machine to say.
+$(BUILD)/%@.service: c/tools/units/device@.service FORCE
+	sed 's,@NAME@,$*,; s,@TITLE@,$(TITLE_$*),; s,@BINDIR@,$(BINDIR),; s,@OPTIONS@,$(OPTIONS_$*),' $< >$@
+$(BUILD)/%@.socket: c/tools/units/device@.socket FORCE
+	sed 's,@NAME@,$*,; s,@TITLE@,the $(TITLE_$*),' $< >$@
+
 PAGES1 := $(notdir $(wildcard man/*.1))
 PAGES7 := $(notdir $(wildcard man/*.7))
 
 # (what was built, and cargo's)
-INSTALLED = covretin $(PROGRAMS:%=$(BUILD)/%) $(wildcard $(BUILD)/covretin-tap)
+INSTALLED = covretin $(PROGRAMS:%=$(BUILD)/%) $(wildcard $(BUILD)/covretin-tap $(BUILD)/covretin-check)
 
-install: all programs
+install: all programs $(UNITS:%=$(BUILD)/%)
 	$(INSTALL) -d -m 755 $(FOLDERS:%=$(DESTDIR)%)
 	$(INSTALL) -m 644 $(BUILD)/libcovretin.a $(DESTDIR)$(LIBDIR)
 	$(INSTALL) -m 755 $(BUILD)/$(SHARED) $(DESTDIR)$(LIBDIR)
@@ -125,14 +169,18 @@ install: all programs
 	$(INSTALL) -m 644 $(HEADERS) $(DESTDIR)$(INCLUDEDIR)
 	$(INSTALL) -m 644 $(sort $(wildcard $(GENERATED)/covretin*.verdict $(GENERATED)/covretin*.sources)) $(DESTDIR)$(DATADIR)/covretin
 	$(INSTALL) -m 644 $(EXAMPLES) $(DESTDIR)$(DOCDIR)/examples
+	for name in $(DESCRIPTORS); do sed 's,@BINDIR@,$(BINDIR),' c/tools/$$name >$(BUILD)/$$name || exit; done
+	$(INSTALL) -m 644 $(DESCRIPTORS:%=$(BUILD)/%) $(DESTDIR)$(BACKENDS)
+	$(INSTALL) -m 644 $(UNITS:%=$(BUILD)/%) $(DESTDIR)$(UNITDIR)
 	$(INSTALL) -m 644 $(PAGES1:%=man/%) $(DESTDIR)$(MANDIR)/man1
 	$(INSTALL) -m 644 $(PAGES7:%=man/%) $(DESTDIR)$(MANDIR)/man7
 
 uninstall:
-	cd $(DESTDIR)$(BINDIR) && rm -f covretin covretin-tap $(PROGRAMS)
-	cd $(DESTDIR)$(LIBDIR) && rm -f libcovretin.a $(SHARED) $(SONAME) libcovretin.so pkgconfig/covretin.pc
-	cd $(DESTDIR)$(INCLUDEDIR) && rm -f $(notdir $(HEADERS))
+	rm -f $(addprefix $(DESTDIR)$(BINDIR)/,covretin covretin-tap covretin-check $(PROGRAMS))
+	rm -f $(addprefix $(DESTDIR)$(LIBDIR)/,libcovretin.a $(SHARED) $(SONAME) libcovretin.so pkgconfig/covretin.pc)
+	rm -f $(HEADERS:include/%=$(DESTDIR)$(INCLUDEDIR)/%)
 	rm -rf $(DESTDIR)$(DATADIR)/covretin $(DESTDIR)$(DOCDIR)
+	rm -f $(DESCRIPTORS:%=$(DESTDIR)$(BACKENDS)/%) $(UNITS:%=$(DESTDIR)$(UNITDIR)/%)
 	rm -f $(PAGES1:%=$(DESTDIR)$(MANDIR)/man1/%) $(PAGES7:%=$(DESTDIR)$(MANDIR)/man7/%)
 
 # Git says which files; what a tarball was unpacked to has no others. Each has the commit's time.
@@ -150,8 +198,8 @@ dist:
 # Cargo packs what lies in the package alone, and the gate takes no links.
 CARGO ?= cargo
 crate:
-	rm -rf rust/generated && cp -r generated rust/generated
-	cd rust && $(CARGO) package --allow-dirty --no-verify; ended=$$?; rm -rf generated; exit $$ended
+	rm -rf rust/generated && cp -r generated rust/generated && cp LICENSE NOTICE rust/
+	cd rust && $(CARGO) package --allow-dirty --no-verify; ended=$$?; rm -rf generated LICENSE NOTICE; exit $$ended
 
 clean:
 	rm -rf $(BUILD)

@@ -26,7 +26,7 @@ static const char usage[] =
 static const char help[] =
     "\n"
     "Makes each line of standard input a call to the backend at the Unix socket PATH, and prints a line 'REQUEST REPLY ANSWER' for it.\n"
-    "Lines are those of vhost-run; an empty one and one that begins with # are left out, and 'help' lists the calls. What stands for a\n"
+    "Lines are those of covretin run: an empty one and one that begins with # are left out, and 'help' lists the calls. What stands for a\n"
     "descriptor in a line is one of these:\n"
     "\n"
     "  N            the number of a descriptor of --fd, or else one that this program was started with, as '3<>FILE' gives it\n"

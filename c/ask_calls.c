@@ -420,7 +420,7 @@ static const struct call calls[] = {
     {"set_log_fd", "h", 0, set_log_fd, PLAIN},
     {"set_vring_num", "ls", 0, set_vring_num, PLAIN},
     {"set_vring_addr", "lillll", 1, set_vring_addr, PLAIN},
-    {"set_vring_base", "li", 0, set_vring_base, PLAIN},
+    {"set_vring_base", "ls", 0, set_vring_base, PLAIN},
     {"get_vring_base", "l", 0, get_vring_base, NUMBER},
     {"set_vring_kick", "lh", 0, set_vring_kick, PLAIN},
     {"set_vring_call", "lh", 0, set_vring_call, PLAIN},
@@ -447,6 +447,7 @@ static const struct call calls[] = {
     {"check_device_state", "", 0, check_device_state, PLAIN},
     {"get_shmem_config", "", 0, get_shmem_config, SHMEM},
     {"set_hdr_flags", "f", 0, NULL, PLAIN},
+    {"set_packed_vring_base", "li", 0, set_vring_base, PLAIN},
     {"postcopy_ack_mem_regions", "r", 0, postcopy_ack_mem_regions, PLAIN},
     /* end */
 };

@@ -1,10 +1,11 @@
 /* SPDX-License-Identifier: Apache-2.0 */
-/* A disk over a file, vhost-user-blk (virtio 1.2, 5.2) over covretin_device.h: blk PATH IMAGE [RINGS [ro] [packed]]
+/* A disk over a file, vhost-user-blk (virtio 1.2, 5.2) over covretin_device.h: blk PATH IMAGE [RINGS [ro] [packed] [pipe]]
  *
  * Listens at PATH and serves one frontend after another until SIGTERM or SIGINT; a second one at a time is hung up on. IMAGE is a raw file,
- * which may grow meanwhile. RINGS is 1 to 8, or else 1; ro: nothing is written; packed: packed rings are offered, too.
+ * which may grow meanwhile. RINGS is 1 to 8, or else 1; ro: nothing is written; packed: packed rings are offered, too; pipe: a frontend may
+ * have itself signalled by pipes and sockets, as User Mode Linux, and is trusted with this disk's time.
  * Prints a line for each frontend that went or was refused, and for each ring whose requests are done again, which another disk left.
- * Status 0; 1 after wrong arguments; 2 where something failed.
+ * Status 0; 2 after wrong arguments; 4 where something failed.
  *
  * A request is checked as it comes. What the page cache has is read then; all else is done by one of some threads, or where liburing is there
  * (compile it with -luring then, or with -DBLK_THREADS) by the kernel, and a thread does again what that did not do whole. */
@@ -39,6 +40,7 @@ struct job {
 
 static int image, queue[2]; /* a pipe, by which threads are given jobs */
 static bool is_read_only;
+static char serial[VIRTIO_BLK_ID_BYTES] = "covretin";
 static uint32_t again[MOST_RINGS]; /* how many requests are done again */
 static uint64_t capacity;          /* in sectors */
 static _Atomic size_t under_way;
@@ -180,7 +182,6 @@ static uint8_t take_ranges(struct job *job)
 /* What is checked is copied before; data are the guest's to change. */
 static uint8_t take_job(struct job *job, covretin_request *request)
 {
-    static const char name[VIRTIO_BLK_ID_BYTES] = "covretin";
     struct virtio_blk_outhdr header;
     if (covretin_request_read(request, &header, sizeof header) != sizeof header || covretin_request_is_lost(request))
         return VIRTIO_BLK_S_IOERR;
@@ -188,7 +189,7 @@ static uint8_t take_job(struct job *job, covretin_request *request)
     case VIRTIO_BLK_T_IN: return take_data(job, request->segments + request->readable, request->writable, header.sector);
     case VIRTIO_BLK_T_OUT: return is_read_only ? VIRTIO_BLK_S_IOERR : take_data(job, request->segments, request->readable, header.sector);
     case VIRTIO_BLK_T_FLUSH: return VIRTIO_BLK_S_OK;
-    case VIRTIO_BLK_T_GET_ID: return covretin_request_write(request, name, job->size = sizeof name) == sizeof name ? VIRTIO_BLK_S_OK : VIRTIO_BLK_S_IOERR;
+    case VIRTIO_BLK_T_GET_ID: return covretin_request_write(request, serial, job->size = sizeof serial) == sizeof serial ? VIRTIO_BLK_S_OK : VIRTIO_BLK_S_IOERR;
     case VIRTIO_BLK_T_DISCARD: case VIRTIO_BLK_T_WRITE_ZEROES: return is_read_only ? VIRTIO_BLK_S_IOERR : take_ranges(job);
     default: return VIRTIO_BLK_S_UNSUPP;
     }
@@ -260,40 +261,60 @@ static void tell_end(void *none, enum covretin_error error)
 static covretin_device_calls calls = {.request = take, .busy_poll_us = 32, .read_config = read_config, .config_changed = measure,
                                       .refused = tell_refused, .turned_away = tell_another, .ended = tell_end};
 
-int main(int argc, char **argv)
+/* Blocked in the threads that begin from here on, too. */
+static void block_ending(void)
 {
-    bool has_ro = argc > 4 && strcmp(argv[4], "ro") == 0, has_packed = argc > 4 + has_ro && strcmp(argv[4 + has_ro], "packed") == 0;
     sigset_t ending;
-    pthread_t it;
-    calls.queues = argc > 3 ? (uint32_t)strtoul(argv[3], NULL, 10) : 1;
-    if (argc < 3 || argc > (argc > 3) + 3 + has_ro + has_packed || calls.queues < 1 || calls.queues > MOST_RINGS) {
-        fprintf(stderr, "usage: blk PATH IMAGE [RINGS [ro] [packed]]\n");
-        return 1;
-    }
-    is_read_only = has_ro;
-    calls.features = 1u << VIRTIO_BLK_F_SEG_MAX | 1u << VIRTIO_BLK_F_BLK_SIZE | 1u << VIRTIO_BLK_F_FLUSH |
-                     (calls.queues > 1 ? 1u << VIRTIO_BLK_F_MQ : 0) | (has_packed ? COVRETIN_DEVICE_RING_PACKED : 0) |
-                     (has_ro ? 1u << VIRTIO_BLK_F_RO : 1u << VIRTIO_BLK_F_DISCARD | 1u << VIRTIO_BLK_F_WRITE_ZEROES);
     sigemptyset(&ending);
     sigaddset(&ending, SIGTERM);
     sigaddset(&ending, SIGINT);
-    pthread_sigmask(SIG_BLOCK, &ending, NULL); /* in the threads, too */
-    bool is_ready = (image = open(argv[2], (has_ro ? O_RDONLY : O_RDWR) | O_CLOEXEC)) >= 0 && pipe2(queue, O_CLOEXEC) == 0;
+    pthread_sigmask(SIG_BLOCK, &ending, NULL);
+}
+
+/* The disk, of `is_read_only` and `calls.queues`, which are set before. False: errno says why not. */
+static bool open_disk(const char *path, bool has_packed)
+{
+    pthread_t it;
+    calls.features = 1u << VIRTIO_BLK_F_SEG_MAX | 1u << VIRTIO_BLK_F_BLK_SIZE | 1u << VIRTIO_BLK_F_FLUSH |
+                     (calls.queues > 1 ? 1u << VIRTIO_BLK_F_MQ : 0) | (has_packed ? COVRETIN_DEVICE_RING_PACKED : 0) |
+                     (is_read_only ? 1u << VIRTIO_BLK_F_RO : 1u << VIRTIO_BLK_F_DISCARD | 1u << VIRTIO_BLK_F_WRITE_ZEROES);
+    block_ending();
+    image = open(path, (is_read_only ? O_RDONLY : O_RDWR) | O_CLOEXEC);
+    if (image < 0 || pipe2(queue, O_CLOEXEC) != 0)
+        return false;
     for (int i = 0; i < THREADS; i++)
-        is_ready = is_ready && pthread_create(&it, NULL, work, NULL) == 0;
-    if (!is_ready) {
-        perror(argv[2]);
-        return 2;
-    }
+        if ((errno = pthread_create(&it, NULL, work, NULL)) != 0)
+            return false;
 #ifndef give_to_kernel
     has_kernel = io_uring_queue_init(IN_KERNEL, &uring, 0) == 0 && pthread_create(&it, NULL, reap, NULL) == 0;
 #endif
     measure(NULL);
+    return true;
+}
+
+#ifndef COVRETIN_PROGRAM /* c/tools/ has a program with the same disk */
+int main(int argc, char **argv)
+{
+    bool has_ro = argc > 4 && strcmp(argv[4], "ro") == 0, has_packed = argc > 4 + has_ro && strcmp(argv[4 + has_ro], "packed") == 0;
+    int words = (argc > 3) + 3 + has_ro + has_packed;
+    calls.calls_by_pipe = argc > words && strcmp(argv[words], "pipe") == 0;
+    calls.queues = argc > 3 ? (uint32_t)strtoul(argv[3], NULL, 10) : 1;
+    if (argc < 3 || argc > words + calls.calls_by_pipe || calls.queues < 1 || calls.queues > MOST_RINGS) {
+        fprintf(stderr, "usage: blk PATH IMAGE [RINGS [ro] [packed] [pipe]]\n");
+        return 2;
+    }
+    is_read_only = has_ro;
+    if (!open_disk(argv[2], has_packed)) {
+        perror(argv[2]);
+        return 4;
+    }
     setvbuf(stdout, NULL, _IOLBF, 0); /* also in a file, so that who is killed has said what it did */
     enum covretin_error error = covretin_device_run(&calls, &calls.queues, argv[1]);
+    bool is_systems = error == COVRETIN_SOCKET_ERROR; /* errno says more */
     if (error != COVRETIN_OK)
-        fprintf(stderr, "%s: %s (%s)\n", argv[1], covretin_error_text(error), strerror(errno));
+        fprintf(stderr, "%s: %s%s%s\n", argv[1], covretin_error_text(error), is_systems ? ": " : "", is_systems ? strerror(errno) : "");
     while (under_way != 0)
         usleep(1000);
-    return error == COVRETIN_OK ? 0 : 2;
+    return error == COVRETIN_OK ? 0 : 4;
 }
+#endif

@@ -28,13 +28,18 @@ struct listening {
     struct stat made;           /* what was made at the path */
 };
 
+static bool is_socket(const char *path)
+{
+    struct stat found;
+    return lstat(path, &found) == 0 && S_ISSOCK(found.st_mode);
+}
+
 /* Whether nobody has the socket that is there. The system refuses a datagram socket by another error where a stream socket is bound, and
  * nobody there sees it. */
 static bool is_left_over(const struct sockaddr_un *address)
 {
-    struct stat found;
     int fd, error;
-    if (lstat(address->sun_path, &found) || !S_ISSOCK(found.st_mode))
+    if (!is_socket(address->sun_path))
         return false;
     fd = socket(AF_UNIX, SOCK_DGRAM | SOCK_CLOEXEC | SOCK_NONBLOCK, 0);
     if (fd < 0)
@@ -69,7 +74,7 @@ static bool take_over_path(int fd, const struct sockaddr_un *address)
     int lock = lock_folder(address->sun_path);
     bool is_bound = false;
     if (!is_left_over(address))
-        errno = EADDRINUSE;
+        errno = is_socket(address->sun_path) ? EADDRINUSE : EEXIST;
     else if (unlink(address->sun_path) == 0)
         is_bound = bind(fd, (const struct sockaddr *)address, sizeof *address) == 0;
     transport_close(lock);

@@ -5,6 +5,7 @@
 #endif
 
 #include "covretin_device_session.h"
+#include "covretin_transport.h"
 
 #include <errno.h>
 #include <poll.h>
@@ -15,11 +16,10 @@
 #include <sys/eventfd.h>
 #include <sys/mman.h>
 #include <sys/signalfd.h>
-#include <sys/syscall.h>
 #include <sys/timerfd.h>
 #include <unistd.h>
 
-enum { MOST_CALLS = 256, MOST_TURNS = 16 };
+enum { MOST_TURNS = 16 };
 
 /* -- The loop -- */
 
@@ -43,8 +43,12 @@ static void poll_socket(struct session *session, short events)
 
 static void tell_refused(struct session *session, enum covretin_error error)
 {
-    uint32_t request = covretin_service_request(&session->frontend);
-    if (session->calls->refused == NULL || error == COVRETIN_OK || error == COVRETIN_DISCONNECTED)
+    uint32_t request = session->last_request = covretin_service_request(&session->frontend);
+    if (error == COVRETIN_OK || error == COVRETIN_DISCONNECTED)
+        return;
+    COUNT(session, refusals, 1);
+    log_refused(session, request, error);
+    if (session->calls->refused == NULL)
         return;
     pthread_mutex_unlock(&session->lock);
     session->calls->refused(session->own, request, error);
@@ -68,14 +72,24 @@ static enum covretin_error next_call(struct session *session, uint32_t *call, sh
     return error;
 }
 
-/* Serves the calls that are there, but for those of one that sends without end: rings are served in between. */
+/* Answers a call. Whoever waits for a reply is hung up on where an allocation failed amid it, or no reply refuses what was refused. */
+static enum covretin_error answer(struct session *session, uint32_t call)
+{
+    enum covretin_error error = answer_call(session, call);
+    if (error == COVRETIN_SOCKET_RETRY || error == COVRETIN_SOCKET_BROKEN)
+        error = COVRETIN_OUT_OF_MEMORY;
+    if (error == COVRETIN_OUT_OF_MEMORY || covretin_backend_ended(&session->frontend.backend))
+        session->why = error;
+    return error;
+}
+
+/* Serves the calls that are there, but for those of one that sends without end: rings are served in between. One is served in any case. */
 static void serve_calls(struct session *session)
 {
-    for (unsigned done = 0; !has_ended(session); done++) {
+    part_begin(session);
+    do {
         short events = 0;
         uint32_t call = 0;
-        if (done == MOST_CALLS)
-            return;
         enum covretin_error error = next_call(session, &call, &events);
         if (error == COVRETIN_NOT_YET) {
             poll_socket(session, events);
@@ -88,8 +102,23 @@ static void serve_calls(struct session *session)
             return;
         }
         if (error == COVRETIN_OK)
-            error = answer_call(session, call);
+            error = answer(session, call);
         tell_refused(session, error);
+    } while (!has_ended(session) && !part_is_over(session, LOOK_AFTER));
+}
+
+/* Serves the rings that are due, from the one that comes after where the last turn's time was over: whichever that is, each gets its
+ * turn. */
+static void serve_rings(struct session *session)
+{
+    uint32_t count = session->calls->queues;
+    part_begin(session);
+    for (uint32_t i = 0; i < count && !has_ended(session); i++) {
+        uint32_t at = (session->first + i) % count;
+        if (!session->rings[at].is_due || ring_serve(session, &session->rings[at]))
+            continue;
+        session->first = at + 1;
+        return;
     }
 }
 
@@ -181,9 +210,8 @@ static void session_free(struct session *session)
 {
     for (uint32_t i = 0; i < COVRETIN_DEVICE_MAX_QUEUES; i++)
         covretin_queue_close(&session->rings[i].queue);
-    if (session->requests != 0)
-        syscall(SYS_io_destroy, session->requests);
     teller_free(session);
+    share_release(session->holder.share);
     close_if(session->empty);
     close_if(session->timer);
     close_if(session->stop);
@@ -196,6 +224,8 @@ static void session_free(struct session *session)
 /* Says once that the session has ended. What it waits for stays ready from then on. */
 static void tell_end(struct session *session)
 {
+    if (!session->is_told)
+        log_ended(session);
     if (!session->is_told && session->calls->ended != NULL) {
         session->is_told = true;
         pthread_mutex_unlock(&session->lock);
@@ -212,11 +242,18 @@ static void serve_what_is_ready(struct session *session)
     take_events(session);
     if (session->frontend.opaque == NULL)
         return;
-    if (session->is_called || session->waits != 0)
+    if ((session->is_called || session->waits != 0) && !has_ended(session))
         serve_calls(session);
-    for (uint32_t i = 0; i < session->calls->queues && !has_ended(session); i++)
-        if (session->rings[i].is_due)
-            ring_serve(session, &session->rings[i]);
+    serve_rings(session);
+}
+
+/* (only the serving thread writes it) */
+static void count_turn(const struct session *session, uint64_t began)
+{
+    covretin_device_stats *stats = session->calls->stats;
+    uint64_t took = stats != NULL ? time_now() - began : 0;
+    if (stats != NULL && took > stats->longest_turn)
+        __atomic_store_n(&stats->longest_turn, took, __ATOMIC_RELAXED);
 }
 
 enum covretin_error covretin_device_serve(covretin_device *device)
@@ -225,7 +262,10 @@ enum covretin_error covretin_device_serve(covretin_device *device)
     enum covretin_error why = COVRETIN_NOT_YET;
     if (session == NULL)
         return COVRETIN_NO_SESSION;
+    take_faults();
     pthread_mutex_lock(&session->lock);
+    uint64_t began = time_now();
+    session->ends_at = began + TURN;
     serve_what_is_ready(session);
     for (unsigned turn = 1; turn < MOST_TURNS && !has_ended(session) && rings_busy_poll(session); turn++)
         serve_what_is_ready(session);
@@ -239,6 +279,7 @@ enum covretin_error covretin_device_serve(covretin_device *device)
         tell_end(session);
         why = session->why;
     }
+    count_turn(session, began);
     pthread_mutex_unlock(&session->lock);
     return why;
 }
@@ -259,15 +300,45 @@ static enum covretin_error prepare(struct session *session)
     session->stop = eventfd(0, EFD_CLOEXEC | EFD_NONBLOCK);
     session->timer = timerfd_create(CLOCK_MONOTONIC, TFD_CLOEXEC | TFD_NONBLOCK);
     session->empty = memfd_create("empty", MFD_CLOEXEC);
+    session->holder.share = share_new();
+    if (session->holder.share == NULL)
+        return COVRETIN_OUT_OF_MEMORY;
     if (session->polled < 0 || session->empty < 0 || !poll_for(session, session->holder.wake, WAKE) ||
         !poll_for(session, session->stop, STOP) || !poll_for(session, session->timer, TIMER) ||
-        !teller_prepare(session) || syscall(SYS_io_setup, 1, &session->requests) != 0)
+        !teller_prepare(session) || !signals_prepare())
         return COVRETIN_SOCKET_ERROR;
     session->arrival = (struct arrival){.holder = &session->holder, .userfault = -1, .stop = session->stop, .signals = session->signals};
     for (uint32_t i = 0; i < session->calls->queues; i++)
         if (covretin_queue_open(&session->rings[i].queue))
             return COVRETIN_OUT_OF_MEMORY;
     return COVRETIN_OK;
+}
+
+/* Whether a device can be made of this table. What this version knows nothing of is not left aside in silence. */
+static enum covretin_error check_table(const covretin_device_calls *calls)
+{
+    if (calls->request == NULL || calls->queues == 0 || calls->queues > COVRETIN_DEVICE_MAX_QUEUES)
+        return COVRETIN_INVALID_PARAM;
+    for (size_t i = 0; i < sizeof calls->later / sizeof *calls->later; i++)
+        if (calls->later[i] != 0)
+            return COVRETIN_INVALID_PARAM;
+#ifdef COVRETIN_DEBUG
+    if (!are_faults_taken())
+        return COVRETIN_INVALID_PARAM;
+#endif
+    return COVRETIN_OK;
+}
+
+/* The frontend that waits at a listener, or that is behind this socket, which is polled before it is the session's: all that can fail does so
+ * while it is the caller's. */
+static enum covretin_error take_frontend(struct session *session, covretin_listener *listener, int fd)
+{
+    enum covretin_error error = listener != NULL ? covretin_accept(listener, &session->frontend, 0) : transport_check_socket(fd);
+    if (error != COVRETIN_OK)
+        return error;
+    if (!poll_for(session, listener != NULL ? covretin_service_fd(&session->frontend) : fd, SOCKET))
+        return COVRETIN_SOCKET_ERROR;
+    return listener != NULL ? COVRETIN_OK : covretin_serve_fd(&session->frontend, fd);
 }
 
 static enum covretin_error open_session(covretin_device *device, const covretin_device_calls *calls, void *own,
@@ -278,8 +349,9 @@ static enum covretin_error open_session(covretin_device *device, const covretin_
     int was;
     if (device->opaque != NULL)
         return COVRETIN_SESSION_OPEN;
-    if (calls->request == NULL || calls->queues == 0 || calls->queues > COVRETIN_DEVICE_MAX_QUEUES)
-        return COVRETIN_INVALID_PARAM;
+    error = check_table(calls);
+    if (error != COVRETIN_OK)
+        return error;
     session = calloc(1, sizeof *session);
     if (session == NULL)
         return COVRETIN_OUT_OF_MEMORY;
@@ -294,13 +366,12 @@ static enum covretin_error open_session(covretin_device *device, const covretin_
     }
     error = prepare(session);
     if (error == COVRETIN_OK)
-        error = listener != NULL ? covretin_accept(listener, &session->frontend, 0) : covretin_serve_fd(&session->frontend, fd);
+        error = take_frontend(session, listener, fd);
     session->events = POLLIN;
     session->is_called = true;
-    if (error == COVRETIN_OK && !poll_for(session, covretin_service_fd(&session->frontend), SOCKET))
-        error = COVRETIN_SOCKET_ERROR;
     if (error == COVRETIN_OK) {
         device->opaque = session;
+        COUNT(session, sessions, 1);
         return COVRETIN_OK;
     }
     was = errno;
@@ -364,6 +435,7 @@ void covretin_request_done(covretin_request *request, uint32_t written)
     struct session *session = taken->session;
     struct ring *ring = &session->rings[request->queue];
     bool is_last;
+    take_faults();
     pthread_mutex_lock(&session->lock);
     if (!has_ended(session))
         ring_give(session, ring, taken, written);
@@ -384,6 +456,7 @@ static covretin_request *session_take(struct session *session, uint32_t queue)
     covretin_request *request;
     if (queue >= session->calls->queues)
         return NULL;
+    take_faults();
     pthread_mutex_lock(&session->lock);
     request = ring_take(session, &session->rings[queue]);
     if (session->rings[queue].is_due || has_ended(session))
@@ -411,6 +484,7 @@ bool covretin_request_is_lost(const covretin_request *request)
 static size_t copy(struct iovec *segments, size_t count, uint8_t *bytes, size_t len, bool is_read)
 {
     size_t done = 0;
+    take_faults();
     for (size_t i = 0; i < count && done < len; i++) {
         size_t part = segments[i].iov_len < len - done ? segments[i].iov_len : len - done;
         if (is_read && bytes != NULL)
@@ -452,14 +526,16 @@ static void refuse_another(covretin_listener *listener, const covretin_device *d
 /* Serves the frontend that is there until it goes. False: a signal came. */
 static bool serve_frontend(covretin_device *device, covretin_listener *listener, int signals)
 {
-    for (;;) {
+    const covretin_device_calls *calls = ((const struct session *)device->opaque)->calls;
+    for (bool takes_input = true;;) {
         const struct session *session = device->opaque;
         /* (a frontend that waits is left to wait where this one's requests are still to be done) */
-        int waiting = session->frontend.opaque != NULL ? covretin_listener_fd(listener) : -1;
+        int waiting = listener != NULL && session->frontend.opaque != NULL ? covretin_listener_fd(listener) : -1;
         struct pollfd polled[] = {{.fd = covretin_device_fd(device), .events = POLLIN},
                                   {.fd = waiting, .events = POLLIN},
-                                  {.fd = signals, .events = POLLIN}};
-        if (poll(polled, 3, -1) < 0)
+                                  {.fd = signals, .events = POLLIN},
+                                  {.fd = takes_input && calls->input_ready != NULL ? calls->input : -1, .events = POLLIN}};
+        if (poll(polled, 4, -1) < 0)
             continue;
         if (polled[2].revents != 0)
             return false;
@@ -467,6 +543,8 @@ static bool serve_frontend(covretin_device *device, covretin_listener *listener,
             refuse_another(listener, device);
         if (polled[0].revents != 0 && covretin_device_serve(device) != COVRETIN_NOT_YET)
             return true;
+        if (polled[3].revents != 0 || (!takes_input && polled[0].revents != 0))
+            takes_input = calls->input_ready(session->own, device);
     }
 }
 
@@ -493,27 +571,73 @@ static enum covretin_error serve_all(const covretin_device_calls *calls, void *o
     }
 }
 
+/* SIGTERM and SIGINT, which are blocked meanwhile and are to be read here. */
+struct ending {
+    sigset_t were;
+    int signals;
+};
+
+/* (and whether there is a device to run) */
+static enum covretin_error ending_begin(const covretin_device_calls *calls, struct ending *ending)
+{
+    enum covretin_error error = check_table(calls);
+    sigset_t ends;
+    sigemptyset(&ends);
+    sigaddset(&ends, SIGTERM);
+    sigaddset(&ends, SIGINT);
+    pthread_sigmask(SIG_BLOCK, &ends, &ending->were);
+    ending->signals = signalfd(-1, &ends, SFD_CLOEXEC | SFD_NONBLOCK);
+    return error == COVRETIN_OK && ending->signals < 0 ? COVRETIN_SOCKET_ERROR : error;
+}
+
+/* Returns the error; errno stays. */
+static enum covretin_error ending_end(const struct ending *ending, enum covretin_error error)
+{
+    struct signalfd_siginfo taken;
+    int was = errno;
+    if (error == COVRETIN_OK)
+        (void)!read(ending->signals, &taken, sizeof taken); /* else it would end the program once it is not blocked */
+    close_if(ending->signals);
+    pthread_sigmask(SIG_SETMASK, &ending->were, NULL);
+    errno = was;
+    return error;
+}
+
 enum covretin_error covretin_device_run(const covretin_device_calls *calls, void *own, const char *path)
 {
     covretin_listener listener = {0};
-    enum covretin_error error;
-    sigset_t ending, were;
-    int signals;
-    sigemptyset(&ending);
-    sigaddset(&ending, SIGTERM);
-    sigaddset(&ending, SIGINT);
-    pthread_sigmask(SIG_BLOCK, &ending, &were);
-    signals = signalfd(-1, &ending, SFD_CLOEXEC | SFD_NONBLOCK);
-    error = signals < 0 ? COVRETIN_SOCKET_ERROR : covretin_listen(&listener, path);
+    struct ending ending;
+    enum covretin_error error = ending_begin(calls, &ending);
     if (error == COVRETIN_OK)
-        error = serve_all(calls, own, &listener, signals);
+        error = covretin_listen(&listener, path);
+    if (error == COVRETIN_OK)
+        error = serve_all(calls, own, &listener, ending.signals);
     int was = errno;
-    struct signalfd_siginfo taken;
     covretin_unlisten(&listener);
-    if (error == COVRETIN_OK)
-        (void)!read(signals, &taken, sizeof taken); /* else it would end the program once it is not blocked */
-    close_if(signals);
-    pthread_sigmask(SIG_SETMASK, &were, NULL);
     errno = was;
-    return error;
+    return ending_end(&ending, error);
+}
+
+enum covretin_error covretin_device_run_listener(const covretin_device_calls *calls, void *own, covretin_listener *listener)
+{
+    struct ending ending;
+    enum covretin_error error = ending_begin(calls, &ending);
+    if (error == COVRETIN_OK)
+        error = listener->opaque != NULL ? serve_all(calls, own, listener, ending.signals) : COVRETIN_NO_SESSION;
+    return ending_end(&ending, error);
+}
+
+enum covretin_error covretin_device_run_fd(const covretin_device_calls *calls, void *own, int fd)
+{
+    covretin_device device = {0};
+    struct ending ending;
+    enum covretin_error error = ending_begin(calls, &ending);
+    if (error == COVRETIN_OK)
+        error = open_session(&device, calls, own, NULL, fd, ending.signals);
+    if (error == COVRETIN_OK && serve_frontend(&device, NULL, ending.signals))
+        error = covretin_device_serve(&device);
+    int was = errno;
+    covretin_device_close(&device);
+    errno = was;
+    return ending_end(&ending, error);
 }

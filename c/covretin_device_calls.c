@@ -135,18 +135,30 @@ static enum covretin_error set_backend_req_fd(struct session *session)
 
 /* -- Memory -- */
 
-/* Each queue sees these regions. False: they are none, and nothing changed; where memory failed the session ends. */
-static bool show_regions(struct session *session, const struct space *space)
+/* How a call changes what each queue sees: all regions are others, or one is more or less, which is not compared with each pair of the
+ * rest. */
+struct change {
+    enum { ALL, ONE_MORE, ONE_LESS } kind;
+    covretin_guest_region regions[IN_A_TABLE];
+    size_t count;
+};
+
+static enum covretin_queue_error show_change(covretin_queue *queue, const struct change *change)
 {
-    covretin_guest_region *regions = malloc((space->count + 1) * sizeof *regions);
-    enum covretin_queue_error error = regions == NULL ? COVRETIN_QUEUE_OUT_OF_MEMORY : COVRETIN_QUEUE_OK;
-    for (size_t i = 0; !error && i < space->count; i++) {
-        const struct mapping *it = space->mappings[i];
-        regions[i] = (covretin_guest_region){it->guest, it->size, it->user, (uint64_t)(uintptr_t)it->at};
-    }
+    const covretin_guest_region *first = change->regions;
+    if (change->kind == ONE_MORE)
+        return covretin_queue_add_region(queue, first);
+    if (change->kind == ONE_LESS)
+        return covretin_queue_remove_region(queue, first->guest_addr, first->size, first->user_addr);
+    return covretin_queue_set_regions(queue, first, change->count);
+}
+
+/* Each queue sees these regions. False: they are none, and nothing changed; where memory failed the session ends. */
+static bool show_regions(struct session *session, const struct change *change)
+{
+    enum covretin_queue_error error = COVRETIN_QUEUE_OK;
     for (uint32_t i = 0; !error && i < session->calls->queues; i++)
-        error = covretin_queue_set_regions(&session->rings[i].queue, regions, space->count);
-    free(regions);
+        error = show_change(&session->rings[i].queue, change);
     if (error == COVRETIN_QUEUE_OUT_OF_MEMORY)
         session->why = COVRETIN_OUT_OF_MEMORY;
     return error == COVRETIN_QUEUE_OK;
@@ -154,9 +166,9 @@ static bool show_regions(struct session *session, const struct space *space)
 
 /* The session has these regions, in the place of those that it had. A ring that lies in none of them is left alone until it does; what it
  * has of them stays mapped for it. NULL: they could not be made. */
-static bool use_regions(struct session *session, struct space *space)
+static bool use_regions(struct session *session, struct space *space, const struct change *change)
 {
-    if (space == NULL || space->count > COVRETIN_DEVICE_MAX_REGIONS || !show_regions(session, space)) {
+    if (space == NULL || space->count > COVRETIN_DEVICE_MAX_REGIONS || !show_regions(session, change)) {
         space_release(space);
         return false;
     }
@@ -165,6 +177,11 @@ static bool use_regions(struct session *session, struct space *space)
     for (uint32_t i = 0; i < session->calls->queues; i++)
         ring_move(session, &session->rings[i]);
     return true;
+}
+
+static covretin_guest_region seen_of(const struct mapping *it)
+{
+    return (covretin_guest_region){it->guest, it->size, it->user, (uint64_t)(uintptr_t)it->at};
 }
 
 /* A mapping of a region, or NULL. */
@@ -196,17 +213,20 @@ static enum covretin_error add_regions(struct session *session, const struct spa
     covretin_region regions[IN_A_TABLE];
     struct mapping *mappings[IN_A_TABLE];
     struct space *space = NULL;
-    size_t count, done = 0;
+    struct change change = {.kind = before != NULL ? ONE_MORE : ALL};
+    size_t count;
     bool listening;
     if (covretin_call_regions(&session->frontend.backend, regions, IN_A_TABLE, &count, &listening))
         return reply(session, false);
-    while (done < count && (mappings[done] = map_region(session, &regions[done])) != NULL)
-        done++;
-    if (done == count)
+    for (; change.count < count && (mappings[change.count] = map_region(session, &regions[change.count])) != NULL; change.count++)
+        change.regions[change.count] = seen_of(mappings[change.count]);
+    if (change.count == count)
         space = space_new(before, SIZE_MAX, mappings, count);
-    for (size_t i = 0; space == NULL && i < done; i++)
+    else
+        log_region(session, change.count, &regions[change.count]);
+    for (size_t i = 0; space == NULL && i < change.count; i++)
         mapping_release(mappings[i]);
-    return use_regions(session, space) ? reply_mapped(session, count, listening) : reply(session, false);
+    return use_regions(session, space, &change) ? reply_mapped(session, count, listening) : reply(session, false);
 }
 
 static enum covretin_error set_mem_table(struct session *session)
@@ -222,16 +242,20 @@ static enum covretin_error add_mem_reg(struct session *session)
 static enum covretin_error rem_mem_reg(struct session *session)
 {
     covretin_region region;
-    size_t count, at = 0, had = session->space != NULL ? session->space->count : 0;
+    struct change change = {.kind = ONE_LESS};
+    size_t at = 0, had = session->space != NULL ? session->space->count : 0;
     bool listening;
-    if (covretin_call_regions(&session->frontend.backend, &region, 1, &count, &listening))
+    if (covretin_call_regions(&session->frontend.backend, &region, 1, &change.count, &listening))
         return reply(session, false);
     for (; at < had; at++) {
         const struct mapping *it = session->space->mappings[at];
         if (it->guest == region.guest_phys_addr && it->user == region.user_addr && it->size == region.memory_size)
             break;
     }
-    return reply(session, at < had && use_regions(session, space_new(session->space, at, NULL, 0)));
+    if (at == had)
+        return reply(session, false);
+    change.regions[0] = seen_of(session->space->mappings[at]);
+    return reply(session, use_regions(session, space_new(session->space, at, NULL, 0), &change));
 }
 
 /* (a refusal ends the session: this call has a reply of its own) */
@@ -353,18 +377,25 @@ static bool take_kick(struct session *session, struct ring *ring, int32_t fd)
     return true;
 }
 
-/* The same with what a ring signals. A pipe is opened anew, with flags that the frontend has no part in. */
+/* What a ring signals, where it is more than an eventfd and the device has asked for that. A pipe is opened anew, with flags that the frontend has
+ * no part in. */
+static struct bell other_bell(const struct session *session, int32_t fd)
+{
+    char name[32];
+    if (fd < 0 || !session->calls->calls_by_pipe)
+        return (struct bell){.fd = -1};
+    if (transport_check_socket(fd) == COVRETIN_OK)
+        return (struct bell){.fd = fd, .is_socket = true};
+    snprintf(name, sizeof name, "/proc/self/fd/%d", fd);
+    return (struct bell){.fd = is_kind(fd, "pipe:[") ? open(name, O_WRONLY | O_NONBLOCK | O_CLOEXEC) : -1, .is_pipe = true};
+}
+
+/* The same with what a ring signals. */
 static bool take_bell(struct session *session, struct bell *bell, int32_t fd)
 {
-    struct bell taken = {.fd = fd, .is_pipe = fd >= 0 && is_kind(fd, "pipe:[")};
-    taken.is_socket = fd >= 0 && transport_check_socket(fd) == COVRETIN_OK;
-    if (taken.is_pipe) {
-        char name[32];
-        snprintf(name, sizeof name, "/proc/self/fd/%d", fd);
-        taken.fd = open(name, O_WRONLY | O_NONBLOCK | O_CLOEXEC);
-        if (taken.fd < 0)
-            return false;
-    } else if (fd >= 0 && ((!taken.is_socket && !is_kind(fd, "anon_inode:[eventfd]")) || covretin_claim_call_fd(&session->frontend, fd)))
+    bool is_eventfd = fd >= 0 && is_kind(fd, "anon_inode:[eventfd]");
+    struct bell taken = is_eventfd ? (struct bell){.fd = fd} : other_bell(session, fd);
+    if (fd >= 0 && (taken.fd < 0 || (!taken.is_pipe && covretin_claim_call_fd(&session->frontend, fd))))
         return false;
     bell_close(bell);
     *bell = taken;

@@ -1,7 +1,7 @@
 /* SPDX-License-Identifier: Apache-2.0 */
-/* A device's backend channel, over which the frontend is told that the configuration changed. It is not waited for: QEMU reads the
- * configuration, over the session's own socket, before it replies here. One that no callback wants is kept open: User Mode Linux has no
- * device without a channel. */
+/* A device's backend channel, over which the frontend is told that the configuration changed. No reply is asked for, and nothing read: the
+ * frontend has the socket, too, and whoever reads from it waits as long as another does. One that no callback wants is kept open: User Mode
+ * Linux has no device without a channel. */
 #ifndef _GNU_SOURCE
 #define _GNU_SOURCE
 #endif
@@ -45,7 +45,6 @@ bool teller_begin(struct session *session, int fd)
     teller_end(session);
     if (covretin_channel_connect_fd(&teller->vmm, fd))
         return false;
-    covretin_channel_set_reply_ack(&teller->vmm.channel, session->protocol_features & COVRETIN_PROTOCOL_REPLY_ACK);
     covretin_channel_set_config_change(&teller->vmm.channel, session->protocol_features & COVRETIN_PROTOCOL_CONFIG);
     poll_channel(session, EPOLL_CTL_ADD, 0);
     set_timer(session, session->calls->config_changed != NULL);

@@ -4,6 +4,7 @@
 #endif
 
 #include "covretin_device_memory.h"
+#include "covretin_transport.h"
 
 #include <errno.h>
 #include <fcntl.h>
@@ -22,14 +23,23 @@
 
 /* -- The guard: all that this library has of global state -- */
 
-enum { MOST_GUARDED = 4096 };
+enum { IN_A_CHUNK = 100 };
 
-/* Read by the handler of a thread amid anything: sizes and a holder count once there is a place, and as long as it stays the same. */
-static struct {
+/* Read by the handler of a thread amid anything: what a place has counts where its version is even, and the same before and after. */
+struct guarded {
+    atomic_uint version;
     _Atomic uintptr_t at; /* 0: none */
     _Atomic size_t size, page;
     struct holder *_Atomic holder;
-} guarded[MOST_GUARDED];
+    struct guarded *next; /* that is free, too */
+};
+
+/* Places, which come as they are needed, and stay: the handler may look at them at any time. */
+static struct chunk {
+    struct chunk *next;
+    struct guarded places[IN_A_CHUNK];
+} *_Atomic chunks;
+static struct guarded *free_places;
 
 static pthread_mutex_t guarding = PTHREAD_MUTEX_INITIALIZER; /* a mapping that is there stays meanwhile */
 static pthread_once_t handling = PTHREAD_ONCE_INIT;
@@ -69,19 +79,27 @@ static void hand_on(int number, siginfo_t *fault, void *context)
     }
 }
 
+/* Whether a fault at an address is one of the mapping at this place, which is lost then. */
+static bool is_lost_at(struct guarded *place, uintptr_t where)
+{
+    unsigned version = place->version;
+    uintptr_t at = place->at;
+    size_t size = place->size, page = place->page;
+    struct holder *holder = place->holder;
+    if (version % 2 != 0 || at == 0 || where - at >= size || place->version != version)
+        return false;
+    return lose(at, size, where, page, holder);
+}
+
 static void take_fault(int number, siginfo_t *fault, void *context)
 {
     int was = errno;
-    for (size_t i = 0; i < MOST_GUARDED && fault->si_code > 0; i++) {
-        uintptr_t at = guarded[i].at;
-        uintptr_t where = (uintptr_t)fault->si_addr;
-        size_t size = guarded[i].size, page = guarded[i].page;
-        struct holder *holder = guarded[i].holder;
-        if (at == 0 || where - at >= size || guarded[i].at != at || !lose(at, size, where, page, holder))
-            continue;
-        errno = was;
-        return;
-    }
+    for (struct chunk *chunk = chunks; chunk != NULL && fault->si_code > 0; chunk = chunk->next)
+        for (size_t i = 0; i < IN_A_CHUNK; i++)
+            if (is_lost_at(&chunk->places[i], (uintptr_t)fault->si_addr)) {
+                errno = was;
+                return;
+            }
     hand_on(number, fault, context);
 }
 
@@ -91,31 +109,83 @@ static void handle(void)
     sigaction(SIGBUS, &action, &earlier);
 }
 
-/* False: there are too many. */
-static bool guard(void *at, size_t size, size_t page, struct holder *holder)
+void take_faults(void)
 {
-    size_t i = 0;
-    pthread_once(&handling, handle);
-    pthread_mutex_lock(&guarding);
-    while (i < MOST_GUARDED && guarded[i].at != 0)
-        i++;
-    if (i < MOST_GUARDED) {
-        guarded[i].size = size;
-        guarded[i].page = page;
-        guarded[i].holder = holder;
-        guarded[i].at = (uintptr_t)at;
-    }
-    pthread_mutex_unlock(&guarding);
-    return i < MOST_GUARDED;
+    static _Thread_local bool takes;
+    sigset_t bus;
+    if (takes)
+        return;
+    takes = true;
+    sigemptyset(&bus);
+    sigaddset(&bus, SIGBUS);
+    pthread_sigmask(SIG_UNBLOCK, &bus, NULL);
 }
 
-static void unguard(const void *at)
+bool are_faults_taken(void)
+{
+    struct sigaction now;
+    sigset_t blocked;
+    pthread_once(&handling, handle);
+    pthread_sigmask(SIG_SETMASK, NULL, &blocked);
+    sigaction(SIGBUS, NULL, &now);
+    return !sigismember(&blocked, SIGBUS) && now.sa_flags & SA_SIGINFO && now.sa_sigaction == take_fault;
+}
+
+static void put(struct guarded *place, uintptr_t at, size_t size, size_t page, struct holder *holder)
+{
+    place->version++;
+    place->at = at;
+    place->size = size;
+    place->page = page;
+    place->holder = holder;
+    place->version++;
+}
+
+/* More places. Whether there was memory for them. */
+static bool add_chunk(void)
+{
+    struct chunk *chunk = calloc(1, sizeof *chunk);
+    if (chunk == NULL)
+        return false;
+    for (size_t i = 0; i < IN_A_CHUNK; i++) {
+        chunk->places[i].next = free_places;
+        free_places = &chunk->places[i];
+    }
+    chunk->next = chunks;
+    chunks = chunk;
+    return true;
+}
+
+/* NULL: there was no memory for it. */
+static struct guarded *guard(void *at, size_t size, size_t page, struct holder *holder)
+{
+    struct guarded *place = NULL;
+    pthread_once(&handling, handle);
+    pthread_mutex_lock(&guarding);
+    if (free_places != NULL || add_chunk()) {
+        place = free_places;
+        free_places = place->next;
+        put(place, (uintptr_t)at, size, page, holder);
+    }
+    pthread_mutex_unlock(&guarding);
+    return place;
+}
+
+static void unguard(struct guarded *place)
 {
     pthread_mutex_lock(&guarding);
-    for (size_t i = 0; i < MOST_GUARDED; i++)
-        if (guarded[i].at == (uintptr_t)at)
-            guarded[i].at = 0;
+    put(place, 0, 0, 0, NULL);
+    place->next = free_places;
+    free_places = place;
     pthread_mutex_unlock(&guarding);
+}
+
+/* What was mapped here is lost, and whoever waits for a page of it goes on. */
+static void lose_whole(struct guarded *place, int userfault, int empty)
+{
+    struct uffdio_range range = {place->at, place->size};
+    mmap((void *)(uintptr_t)range.start, range.len, PROT_READ | PROT_WRITE, MAP_SHARED | MAP_NORESERVE | MAP_FIXED, empty, 0);
+    ioctl(userfault, UFFDIO_WAKE, &range);
 }
 
 /* All mappings of a holder are lost, and whoever waits for a page of theirs goes on. An empty file in the place of each is as one that was
@@ -126,16 +196,90 @@ static void lose_all(struct holder *holder, int userfault)
     holder->has_lost = true;
     wake_up(holder->wake);
     pthread_mutex_lock(&guarding);
-    for (size_t i = 0; i < MOST_GUARDED && empty >= 0; i++) {
-        struct uffdio_range range = {guarded[i].at, guarded[i].size};
-        if (range.start == 0 || guarded[i].holder != holder)
-            continue;
-        mmap((void *)(uintptr_t)range.start, range.len, PROT_READ | PROT_WRITE, MAP_SHARED | MAP_NORESERVE | MAP_FIXED, empty, 0);
-        ioctl(userfault, UFFDIO_WAKE, &range);
-    }
+    for (struct chunk *chunk = chunks; chunk != NULL && empty >= 0; chunk = chunk->next)
+        for (size_t i = 0; i < IN_A_CHUNK; i++)
+            if (chunk->places[i].holder == holder)
+                lose_whole(&chunk->places[i], userfault, empty);
     pthread_mutex_unlock(&guarding);
     if (empty >= 0)
         close(empty);
+}
+
+/* -- What is used no longer -- */
+
+enum { MOST_MAPPED = 1024, SMALL = 0x100000, FEW = 4, PIECE = 0x1000000 };
+
+struct share {
+    atomic_size_t count; /* of mappings, and one for the holder */
+};
+
+struct share *share_new(void)
+{
+    struct share *share = malloc(sizeof *share);
+    if (share != NULL)
+        atomic_init(&share->count, 1);
+    return share;
+}
+
+void share_release(struct share *share)
+{
+    if (share != NULL && --share->count == 0)
+        free(share);
+}
+
+static struct mapping *_Atomic gone; /* what is to be unmapped */
+static atomic_int unmaps;            /* the process whose thread does that; a child of fork has none */
+
+/* In pieces, between which others may map. */
+static void unmap(struct mapping *mapping, size_t piece)
+{
+    uint8_t *at = mapping->all;
+    for (size_t left = mapping->all_size; left != 0;) {
+        size_t part = left < piece ? left : piece;
+        munmap(at, part);
+        at += part;
+        left -= part;
+    }
+    share_release(mapping->share);
+    free(mapping);
+}
+
+static void unmap_gone(void)
+{
+    for (struct mapping *first; (first = atomic_exchange(&gone, NULL)) != NULL;)
+        while (first != NULL) {
+            struct mapping *next = first->next;
+            unmap(first, PIECE);
+            first = next;
+        }
+}
+
+static void *unmap_all(void *none)
+{
+    int process = getpid();
+    do {
+        unmap_gone();
+        unmaps = 0;
+    } while (gone != NULL && atomic_exchange(&unmaps, process) != process);
+    return none;
+}
+
+/* Has it unmapped by a thread, which ends once there is no more. */
+static void unmap_later(struct mapping *mapping)
+{
+    pthread_t thread;
+    int process = getpid();
+    mapping->next = gone;
+    while (!atomic_compare_exchange_weak(&gone, &mapping->next, mapping))
+        ;
+    if (atomic_exchange(&unmaps, process) == process)
+        return;
+    if (transport_start_thread(&thread, NULL, unmap_all, NULL)) {
+        pthread_detach(thread);
+        return;
+    }
+    unmaps = 0;
+    unmap_gone();
 }
 
 /* -- Mappings -- */
@@ -160,7 +304,7 @@ static bool has_bytes(int fd, uint64_t offset, uint64_t size)
 
 struct mapping *mapping_new(struct holder *holder, int fd, uint64_t offset, uint64_t size)
 {
-    struct mapping *mapping = has_bytes(fd, offset, size) ? calloc(1, sizeof *mapping) : NULL;
+    struct mapping *mapping = holder->share->count <= MOST_MAPPED && has_bytes(fd, offset, size) ? calloc(1, sizeof *mapping) : NULL;
     uint64_t page, into;
     if (mapping == NULL)
         return NULL;
@@ -175,8 +319,12 @@ struct mapping *mapping_new(struct holder *holder, int fd, uint64_t offset, uint
     mapping->users = 1;
     mapping->at = (uint8_t *)mapping->all + into;
     mapping->size = size;
-    if (guard(mapping->all, mapping->all_size, (size_t)page, holder))
+    mapping->guarded = guard(mapping->all, mapping->all_size, (size_t)page, holder);
+    if (mapping->guarded != NULL) {
+        mapping->share = holder->share;
+        mapping->share->count++;
         return mapping;
+    }
     munmap(mapping->all, mapping->all_size);
     free(mapping);
     return NULL;
@@ -184,11 +332,15 @@ struct mapping *mapping_new(struct holder *holder, int fd, uint64_t offset, uint
 
 void mapping_release(struct mapping *mapping)
 {
+    bool is_huge;
     if (mapping == NULL || --mapping->users != 0)
         return;
-    unguard(mapping->all);
-    munmap(mapping->all, mapping->all_size);
-    free(mapping);
+    is_huge = mapping->guarded->page > (size_t)sysconf(_SC_PAGESIZE); /* these are few, and others may wait for them */
+    unguard(mapping->guarded);
+    if (is_huge || (mapping->all_size <= SMALL && mapping->share->count <= FEW))
+        unmap(mapping, mapping->all_size);
+    else
+        unmap_later(mapping);
 }
 
 /* -- Spaces -- */
@@ -235,18 +387,6 @@ static void *watch(void *of)
     return NULL;
 }
 
-/* The thread takes no signal of the program's. */
-static bool start_watching(struct arrival *arrival)
-{
-    sigset_t all, were;
-    int error;
-    sigfillset(&all);
-    pthread_sigmask(SIG_BLOCK, &all, &were);
-    error = pthread_create(&arrival->watcher, NULL, watch, arrival);
-    pthread_sigmask(SIG_SETMASK, &were, NULL);
-    return error == 0;
-}
-
 bool arrival_begin(struct arrival *arrival)
 {
     struct uffdio_api api = {.api = UFFD_API};
@@ -255,7 +395,7 @@ bool arrival_begin(struct arrival *arrival)
         return false;
     arrival->userfault = userfault;
     arrival->over = eventfd(0, EFD_CLOEXEC | EFD_NONBLOCK);
-    if (arrival->over >= 0 && ioctl(userfault, UFFDIO_API, &api) == 0 && start_watching(arrival))
+    if (arrival->over >= 0 && ioctl(userfault, UFFDIO_API, &api) == 0 && transport_start_thread(&arrival->watcher, NULL, watch, arrival))
         return true;
     if (arrival->over >= 0)
         close(arrival->over);

@@ -17,7 +17,16 @@
 struct holder {
     atomic_bool has_lost;
     int wake;
+    struct share *share;
 };
+
+/* How many mappings a holder has, also those of requests that are under way, and those that are still to be unmapped: each session has a
+ * part of what the system allows. NULL: there was no memory for it. And the holder has no more of them; NULL is none. */
+struct share *share_new(void);
+void share_release(struct share *share);
+
+/* The guard's place of a mapping. */
+struct guarded;
 
 /* A part of a file that is mapped here. */
 struct mapping {
@@ -27,16 +36,27 @@ struct mapping {
     uint8_t *at; /* the part */
     uint64_t size, guest, user; /* of a region, where the guest has it, and the frontend */
     bool is_watched;            /* its page faults go to the frontend */
+    struct guarded *guarded;
+    struct share *share;
+    struct mapping *next; /* that is to be unmapped */
 };
 
-/* Maps so many bytes of a memory file, which has to have them, and guards them. NULL: it could not. The descriptor is needed no longer. */
+/* Maps so many bytes of a memory file, which has to have them, and guards them. NULL: it could not, or the holder has its share. The
+ * descriptor is needed no longer. */
 struct mapping *mapping_new(struct holder *holder, int fd, uint64_t offset, uint64_t size);
 
-/* One that uses it does no longer. NULL is none. */
+/* One that uses it does no longer. NULL is none. What takes long to unmap is unmapped by a thread: where pages were touched the system
+ * looks at each. */
 void mapping_release(struct mapping *mapping);
 
 /* Writes an eventfd of this process's own, which never waits. From a signal handler, too. */
 void wake_up(int eventfd);
+
+/* This thread is about to touch what is mapped: from then on it blocks SIGBUS no more, by which the system would end the process. */
+void take_faults(void);
+
+/* Whether this thread does not block that, and nobody has put another handler in the place of this part's. */
+bool are_faults_taken(void);
 
 /* The regions of a session. NULL: there are none. */
 struct space {

@@ -1,19 +1,24 @@
 /* SPDX-License-Identifier: Apache-2.0 */
 #ifndef _GNU_SOURCE
-#define _GNU_SOURCE
+#define _GNU_SOURCE /* for MADV_WIPEONFORK */
 #endif
 
 #include "covretin_device_session.h"
 #include "covretin_transport.h"
 
+#include <errno.h>
+#include <linux/aio_abi.h>
 #include <signal.h>
 #include <stdlib.h>
 #include <string.h>
 #include <sys/epoll.h>
+#include <sys/mman.h>
 #include <sys/socket.h>
 #include <sys/syscall.h>
 #include <time.h>
 #include <unistd.h>
+
+enum { UNSAID = 0x100000 }; /* as covretin_request_done says */
 
 /* -- Bytes of the guest, each read once -- */
 
@@ -27,18 +32,37 @@ static void write_bytes(uint64_t at, uint64_t value, uint64_t len)
     memcpy((void *)(uintptr_t)at, &value, len < sizeof value ? (size_t)len : sizeof value);
 }
 
+/* Sets the bits of these pages. Where all of a byte or of a word are set it is not read: whoever collects them exchanges it for 0. */
+static void set_bits(uint8_t *log, uint64_t page, uint64_t end)
+{
+    while (page < end) {
+        covretin_log_bit bit;
+        covretin_log_bit_of(page, &bit);
+        uint8_t *at = log + bit.byte;
+        if (bit.mask == 1 && end - page >= 64 && (uintptr_t)at % sizeof(uint64_t) == 0) {
+            __atomic_store_n((uint64_t *)(void *)at, UINT64_MAX, __ATOMIC_SEQ_CST);
+            page += 64;
+        } else if (bit.mask == 1 && end - page >= 8) {
+            __atomic_store_n(at, UINT8_MAX, __ATOMIC_SEQ_CST);
+            page += 8;
+        } else {
+            __atomic_fetch_or(at, bit.mask, __ATOMIC_SEQ_CST);
+            page++;
+        }
+    }
+}
+
+static bool is_logged(const struct session *session)
+{
+    return (session->features & COVRETIN_FEATURE_LOG_ALL) && session->log != NULL;
+}
+
 /* Logs that these bytes of the guest were written, where that is wanted. */
 static void log_bytes(const struct session *session, uint64_t guest, uint64_t len)
 {
     uint64_t page, end;
-    if (!(session->features & COVRETIN_FEATURE_LOG_ALL) || session->log == NULL || len == 0 ||
-        covretin_log_pages(guest, len, session->log->size, &page, &end))
-        return;
-    for (; page < end; page++) {
-        covretin_log_bit bit;
-        covretin_log_bit_of(page, &bit);
-        __atomic_fetch_or(&session->log->at[bit.byte], bit.mask, __ATOMIC_SEQ_CST);
-    }
+    if (is_logged(session) && len != 0 && covretin_log_pages(guest, len, session->log->size, &page, &end) == COVRETIN_QUEUE_OK)
+        set_bits(session->log->at, page, end);
 }
 
 /* The same of bytes of a ring, where they are mapped. A packed ring has no address of its own for the log. */
@@ -166,7 +190,7 @@ void ring_move(struct session *session, struct ring *ring)
 void bell_close(struct bell *bell)
 {
     if (bell->is_socket)
-        transport_close_socket(bell->fd, false);
+        transport_close_given(bell->fd);
     else if (bell->fd >= 0)
         close(bell->fd);
     *bell = (struct bell){.fd = -1};
@@ -317,39 +341,71 @@ static bool wait_for_kicks(const struct session *session, struct ring *ring)
 
 /* -- How long it is empty -- */
 
-static uint64_t now(void)
+uint64_t time_now(void)
 {
     struct timespec at;
     clock_gettime(CLOCK_MONOTONIC, &at);
     return (uint64_t)at.tv_sec * 1000000000 + (uint64_t)at.tv_nsec;
 }
 
-/* Whether a ring that has been empty since then is still to be looked at. */
-static bool is_soon(const struct session *session, uint64_t empty)
+void part_begin(struct session *session)
 {
-    return now() - empty < (uint64_t)session->calls->busy_poll_us * 1000;
+    uint64_t ends = time_now() + PART;
+    session->since_look = 0;
+    session->part_ends = ends < session->ends_at ? ends : session->ends_at;
+}
+
+bool part_is_over(struct session *session, unsigned done)
+{
+    session->since_look += done;
+    if (session->since_look < LOOK_AFTER)
+        return false;
+    session->since_look = 0;
+    return time_now() >= session->part_ends;
+}
+
+/* Whether a ring that has been empty since then is still to be looked at. */
+static bool is_soon(const struct session *session, uint64_t empty, uint64_t now)
+{
+    return now - empty < (uint64_t)session->calls->busy_poll_us * 1000;
 }
 
 void ring_kicked(const struct session *session, struct ring *ring)
 {
+    COUNT(session, kicks, 1);
     ring->is_due = true;
-    ring->is_quick = session->calls->busy_poll_us != 0 && is_soon(session, ring->empty);
+    ring->is_quick = session->calls->busy_poll_us != 0 && is_soon(session, ring->empty, time_now());
 }
 
 /* The ring is empty. Whether it is to be served on. */
 static bool is_to_go_on(const struct session *session, struct ring *ring)
 {
     if (session->calls->busy_poll_us != 0)
-        ring->empty = now();
+        ring->empty = time_now();
     ring->is_quiet = ring->is_quick && ask_for_kicks(session, ring, false);
     return !ring->is_quiet && wait_for_kicks(session, ring);
+}
+
+/* Looks at quiet rings until one shows more: which. None: they are as many. */
+static size_t look_at_quiet(const struct session *session, struct ring *const *quiet, size_t count, uint64_t empty, bool *is_over)
+{
+    size_t found;
+    uint64_t now;
+    do {
+        for (found = 0; found < count && read16(quiet[found]->shows) == quiet[found]->shown;)
+            found++;
+        now = time_now();
+        *is_over = !is_soon(session, empty, now);
+    } while (found == count && !session->is_stopped && !session->holder.has_lost && !*is_over && now < session->ends_at);
+    return found;
 }
 
 bool rings_busy_poll(struct session *session)
 {
     struct ring *quiet[COVRETIN_DEVICE_MAX_QUEUES];
-    size_t count = 0, found = 0;
+    size_t count = 0, found;
     uint64_t last = 0;
+    bool is_over;
     for (uint32_t i = 0; i < session->calls->queues; i++) {
         struct ring *ring = &session->rings[i];
         if (!ring_is_running(session, ring))
@@ -364,12 +420,9 @@ bool rings_busy_poll(struct session *session)
     if (count == 0)
         return false;
     pthread_mutex_unlock(&session->lock);
-    do
-        for (found = 0; found < count && read16(quiet[found]->shows) == quiet[found]->shown;)
-            found++;
-    while (found == count && !session->is_stopped && !session->holder.has_lost && is_soon(session, last));
+    found = look_at_quiet(session, quiet, count, last, &is_over);
     pthread_mutex_lock(&session->lock);
-    for (size_t i = 0; found == count && i < count; i++) {
+    for (size_t i = 0; found == count && is_over && i < count; i++) {
         quiet[i]->is_quiet = quiet[i]->is_quick = false;
         quiet[i]->is_due = wait_for_kicks(session, quiet[i]);
     }
@@ -412,6 +465,9 @@ static struct taken *count_out(struct session *session, struct ring *ring, uint1
         session->why = COVRETIN_OUT_OF_MEMORY;
         return NULL;
     }
+    COUNT(session, requests, 1);
+    for (size_t i = 0; i < session->segment_count && session->calls->stats != NULL; i++)
+        COUNT(session, bytes, session->segments[i].range.len);
     taken->space->users++;
     ring->out++;
     session->out++;
@@ -433,6 +489,7 @@ static void break_ring(struct session *session, struct ring *ring, enum covretin
     ring->is_broken = true;
     ring->broken_by = COVRETIN_QUEUE_OK;
     ring_signal(session, &ring->error);
+    log_broken((uint32_t)(ring - session->rings), error);
     if (session->calls->broken == NULL)
         return;
     pthread_mutex_unlock(&session->lock);
@@ -454,6 +511,9 @@ covretin_request *ring_take(struct session *session, struct ring *ring)
     if (!is_taken_of(session, ring) || !ring_is_running(session, ring) || session->why != COVRETIN_OK || session->is_stopped)
         return NULL;
     error = take(session, ring, &id, &again);
+    /* (whose input waits for a request hears of the next one by its kick) */
+    if (error == COVRETIN_QUEUE_NOTHING_AVAILABLE && session->calls->input_ready != NULL && wait_for_kicks(session, ring))
+        error = take(session, ring, &id, &again);
     if (error && error != COVRETIN_QUEUE_NOTHING_AVAILABLE) {
         ring->is_broken = ring->is_due = true; /* ring_serve tells that: nothing is called back from here */
         ring->broken_by = error;
@@ -462,64 +522,141 @@ covretin_request *ring_take(struct session *session, struct ring *ring)
     return taken != NULL ? &taken->request : NULL;
 }
 
-void ring_serve(struct session *session, struct ring *ring)
+bool ring_serve(struct session *session, struct ring *ring)
 {
     ring->is_due = ring->is_quiet = false;
     if (ring->broken_by != COVRETIN_QUEUE_OK && !session->holder.has_lost)
         break_ring(session, ring, ring->broken_by);
     if (is_taken_of(session, ring))
-        return;
+        return true;
     for (unsigned done = 0; ring_is_running(session, ring) && session->why == COVRETIN_OK && !session->is_stopped; done++) {
         uint16_t id = 0;
-        bool again;
+        bool again, is_over;
         enum covretin_queue_error error = take(session, ring, &id, &again);
         if (session->holder.has_lost)
-            return; /* what was read may be zeros that nobody wrote */
+            return true; /* what was read may be zeros that nobody wrote */
         if (error == COVRETIN_QUEUE_NOTHING_AVAILABLE && !is_to_go_on(session, ring))
-            return;
+            return true;
+        is_over = part_is_over(session, LOOK_AFTER / 8 + (unsigned)session->segment_count);
         if (error && error != COVRETIN_QUEUE_NOTHING_AVAILABLE)
             break_ring(session, ring, error);
         if (!error)
             hand_out(session, ring, id, again);
-        if (done == ring->size) {
+        if (done == ring->size || is_over) {
             ring->is_due = true;
-            return;
+            return !is_over;
         }
     }
+    return true;
+}
+
+/* -- Signals -- */
+
+enum { MOST_READS = 64, MOST_TRIES = 64 };
+
+/* What reads for eventfds: one for all of a process, since the end of one waits. A child of fork has none of its parent's, so this lies
+ * on a page that is zeros there. */
+struct reads {
+    _Atomic aio_context_t context;
+    atomic_uint count; /* that were begun */
+};
+
+static struct reads *_Atomic reads;
+
+/* NULL: there is no memory for it. */
+static struct reads *reads_of_process(void)
+{
+    const size_t page = (size_t)sysconf(_SC_PAGESIZE);
+    struct reads *found = reads;
+    if (found != NULL)
+        return found;
+    struct reads *made = mmap(NULL, page, PROT_READ | PROT_WRITE, MAP_PRIVATE | MAP_ANONYMOUS, -1, 0);
+    if (made == MAP_FAILED)
+        return NULL;
+    if (madvise(made, page, MADV_WIPEONFORK) == 0 && atomic_compare_exchange_strong(&reads, &found, made))
+        return made;
+    munmap(made, page);
+    return found; /* of another thread, who was sooner, or none */
+}
+
+/* 0: the system gives none. */
+static aio_context_t context_of(struct reads *all)
+{
+    aio_context_t found = all->context, made = 0;
+    if (found != 0 || syscall(SYS_io_setup, MOST_READS, &made) != 0)
+        return found;
+    if (atomic_compare_exchange_strong(&all->context, &found, made))
+        return made;
+    syscall(SYS_io_destroy, made);
+    return found;
+}
+
+bool signals_prepare(void)
+{
+    struct reads *all = reads_of_process();
+    return all != NULL && context_of(all) != 0;
+}
+
+/* Takes the ends of reads, so that there is room for those of others. */
+static void collect(aio_context_t context)
+{
+    static const struct timespec at_once = {0, 0};
+    struct io_event ended[MOST_READS];
+    syscall(SYS_io_getevents, context, 0, MOST_READS, ended, &at_once);
 }
 
 /* A read of nothing, that names an eventfd which the kernel adds 1 to as it ends: that never waits, which a write may, whatever this
- * process asks for. To a pipe or socket that nobody reads a write fails without a signal; one that is full has something to be read. */
-void ring_signal(struct session *session, const struct bell *bell)
+ * process asks for. False: the system refused it. */
+static bool signal_eventfd(const struct session *session, int fd)
+{
+    struct iocb read = {.aio_lio_opcode = IOCB_CMD_PREAD,
+                        .aio_fildes = (uint32_t)session->empty,
+                        .aio_flags = IOCB_FLAG_RESFD,
+                        .aio_resfd = (uint32_t)fd};
+    struct iocb *list[] = {&read};
+    struct reads *all = reads_of_process();
+    aio_context_t context = all != NULL ? context_of(all) : 0;
+    for (unsigned tried = 0; context != 0 && tried < MOST_TRIES; tried++) {
+        bool is_begun = syscall(SYS_io_submit, context, 1, list) == 1;
+        if (!is_begun && errno != EAGAIN)
+            return false;
+        if (!is_begun || ++all->count % MOST_READS == 0)
+            collect(context);
+        if (is_begun)
+            return true;
+    }
+    return false;
+}
+
+/* To a pipe that nobody reads a write fails without a signal. */
+static void signal_pipe(int fd)
 {
     static const struct timespec at_once = {0, 0};
-    static const uint64_t one = 1;
-    struct iocb request = {.aio_lio_opcode = IOCB_CMD_PREAD,
-                           .aio_fildes = (uint32_t)session->empty,
-                           .aio_flags = IOCB_FLAG_RESFD,
-                           .aio_resfd = (uint32_t)bell->fd};
-    struct iocb *list[] = {&request};
-    struct io_event ended;
     sigset_t pipe_signal, were;
-    if (bell->fd < 0)
-        return;
-    if (bell->is_socket) {
-        (void)!send(bell->fd, &one, sizeof one, MSG_DONTWAIT | MSG_NOSIGNAL);
-        return;
-    }
-    if (!bell->is_pipe) {
-        if (syscall(SYS_io_submit, session->requests, 1, list) == 1)
-            syscall(SYS_io_getevents, session->requests, 1, 1, &ended, &at_once);
-        return;
-    }
     sigemptyset(&pipe_signal);
     sigaddset(&pipe_signal, SIGPIPE);
     pthread_sigmask(SIG_BLOCK, &pipe_signal, &were);
-    wake_up(bell->fd);
+    wake_up(fd);
     if (!sigismember(&were, SIGPIPE)) {
         while (sigtimedwait(&pipe_signal, NULL, &at_once) > 0)
             ;
         pthread_sigmask(SIG_SETMASK, &were, NULL);
+    }
+}
+
+/* A pipe or socket that is full has something to be read. A driver whose eventfd cannot be signalled would wait for ever. */
+void ring_signal(struct session *session, const struct bell *bell)
+{
+    static const uint64_t one = 1;
+    if (bell->fd < 0)
+        return;
+    if (bell->is_socket)
+        (void)!send(bell->fd, &one, sizeof one, MSG_DONTWAIT | MSG_NOSIGNAL);
+    else if (bell->is_pipe)
+        signal_pipe(bell->fd);
+    else if (!signal_eventfd(session, bell->fd) && session->why == COVRETIN_OK) {
+        session->why = COVRETIN_SOCKET_ERROR;
+        wake_up(session->holder.wake);
     }
 }
 
@@ -532,8 +669,36 @@ static void tell(struct session *session, struct ring *ring)
     if (covretin_queue_notification_place(&ring->queue, &place))
         return;
     uint16_t value = read16(place.addr), flags = place.len == 4 ? read16(place.addr + 2) : 0;
-    if (covretin_queue_needs_notification(&ring->queue, value, flags, &needed) == COVRETIN_QUEUE_OK && needed)
-        ring_signal(session, &ring->call);
+    if (covretin_queue_needs_notification(&ring->queue, value, flags, &needed) != COVRETIN_QUEUE_OK || !needed)
+        return;
+    COUNT(session, calls, 1);
+    ring_signal(session, &ring->call);
+}
+
+/* Logs what a part of a request has of its bytes from one to another; the part begins at this one. */
+static void log_part(const struct session *session, const struct part *part, uint64_t begins, uint64_t from, uint64_t to)
+{
+    uint64_t first = from > begins ? from : begins, end = to < begins + part->size ? to : begins + part->size;
+    if (first < end)
+        log_bytes(session, part->guest + (first - begins), end - first);
+}
+
+/* Logs what was written of a request: what the device says, and of what it may have written beyond that, as a status behind data that could
+ * not be read, both ends. All of it would be terabytes, where a guest says so. */
+static void log_written(const struct session *session, const struct taken *taken, uint32_t written)
+{
+    uint64_t all = 0, at = 0, head, tail;
+    for (size_t i = 0; i < taken->part_count; i++)
+        all += taken->parts[i].size;
+    head = (uint64_t)written + UNSAID;
+    tail = all > UNSAID ? all - UNSAID : 0;
+    if (tail <= head)
+        head = tail = all;
+    for (size_t i = 0; i < taken->part_count; i++) {
+        log_part(session, &taken->parts[i], at, 0, head);
+        log_part(session, &taken->parts[i], at, tail, all);
+        at += taken->parts[i].size;
+    }
 }
 
 void ring_give(struct session *session, struct ring *ring, const struct taken *taken, uint32_t written)
@@ -541,8 +706,8 @@ void ring_give(struct session *session, struct ring *ring, const struct taken *t
     covretin_used used;
     if (covretin_queue_add_used(&ring->queue, taken->id, written, &used))
         return;
-    for (size_t i = 0; i < taken->part_count; i++)
-        log_bytes(session, taken->parts[i].guest, taken->parts[i].size);
+    if (is_logged(session))
+        log_written(session, taken, written);
     write_bytes(used.elem.addr, used.elem_value, used.elem.len);
     if (ring->inflight != NULL)
         inflight_before_used(ring, taken);

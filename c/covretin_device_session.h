@@ -8,7 +8,6 @@
 #include "covretin_device.h"
 #include "covretin_device_memory.h"
 
-#include <linux/aio_abi.h>
 #include <pthread.h>
 
 /* What is polled for: the kick of a ring, by its number, or one of these. */
@@ -103,12 +102,43 @@ struct session {
     int stop, signals; /* an eventfd, and a signalfd, or -1 */
     atomic_bool is_stopped;
     bool is_told, is_closed;
+    uint32_t last_request; /* as the frontend numbers it */
+    char detail[160];      /* why the call that is served is refused, where that is known */
+    uint64_t ends_at;    /* when this turn is to end, in nanoseconds, */
+    uint64_t part_ends;  /* and the part of it that is done, calls or rings; */
+    unsigned since_look; /* how much of that was done since the time was looked at, */
+    uint32_t first;      /* and the ring that is served first */
     enum covretin_error why; /* it ended; 0: it goes on */
-    aio_context_t requests;  /* see ring_signal */
-    int empty;
+    int empty; /* a file of no bytes */
     covretin_segment segments[COVRETIN_DEVICE_MAX_QUEUE_SIZE]; /* of the chain that is followed */
     size_t segment_count;
 };
+
+/* How long calls are served in a turn, and then rings, in nanoseconds; after both no queue is polled any more. And how much is done
+ * between two looks at the time, as descriptors of requests: a chain of few costs less than a look. */
+enum { PART = 400000, TURN = 2 * PART, LOOK_AFTER = 64 };
+
+/* The time, in nanoseconds. */
+uint64_t time_now(void);
+
+/* A part of a turn begins; and whether it is over, once so much more of it was done. */
+void part_begin(struct session *session);
+bool part_is_over(struct session *session, unsigned done);
+
+/* -- Saying why, where somebody listens -- */
+
+/* A request was refused; why a region was not mapped, which is said of its request then; a session ended; and a queue is broken. */
+void log_refused(struct session *session, uint32_t request, enum covretin_error error);
+void log_region(struct session *session, size_t at, const covretin_region *region);
+void log_ended(const struct session *session);
+void log_broken(uint32_t queue, enum covretin_queue_error error);
+
+/* Counts, where the device wants that; whoever reads may be in another thread. */
+#define COUNT(session, counter, by) \
+    do { \
+        if ((session)->calls->stats != NULL) \
+            __atomic_fetch_add(&(session)->calls->stats->counter, (by), __ATOMIC_RELAXED); \
+    } while (0)
 
 /* Whether requests are taken from it. */
 bool ring_is_running(const struct session *session, const struct ring *ring);
@@ -128,14 +158,15 @@ void ring_stop(struct session *session, struct ring *ring);
 /* Closes what a bell is. */
 void bell_close(struct bell *bell);
 
-/* Hands the requests that are there to the device, but for those of a driver that makes more without end: then the ring is still due. */
-void ring_serve(struct session *session, struct ring *ring);
+/* Hands the requests that are there to the device, but for those of a driver that makes more without end: then the ring is still due. False:
+ * the part of the turn is over. */
+bool ring_serve(struct session *session, struct ring *ring);
 
 /* The ring was kicked. */
 void ring_kicked(const struct session *session, struct ring *ring);
 
-/* Looks at quiet rings until one shows more, for as long as the device has said, and then has their drivers tell. Whether one does; not where
- * another is due. The lock is let go of meanwhile. */
+/* Looks at quiet rings until one shows more, for as long as the device has said, and then has their drivers tell; or until the turn ends,
+ * after which they are looked at in the next. Whether one does; not where another is due. The lock is let go of meanwhile. */
 bool rings_busy_poll(struct session *session);
 
 /* Takes the next request of a ring that the device takes of. NULL: there is none. */
@@ -144,7 +175,10 @@ covretin_request *ring_take(struct session *session, struct ring *ring);
 /* Gives a request back. */
 void ring_give(struct session *session, struct ring *ring, const struct taken *taken, uint32_t written);
 
-/* Signals a bell, without waiting. */
+/* Whether the system has what eventfds are signalled by. */
+bool signals_prepare(void);
+
+/* Signals a bell, without waiting. Where that cannot be done the session ends. */
 void ring_signal(struct session *session, const struct bell *bell);
 
 /* -- The inflight region -- */

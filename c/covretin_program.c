@@ -4,9 +4,11 @@
 #define _GNU_SOURCE
 #include <errno.h>
 #include <fcntl.h>
+#include <stddef.h>
 #include <stdint.h>
 #include <stdlib.h>
 #include <string.h>
+#include <unistd.h>
 
 int32_t rattle_errno(void);
 void rattle_set_errno(int32_t number);
@@ -14,13 +16,20 @@ size_t rattle_arg_count(void);
 size_t rattle_arg(size_t index, uint8_t *to, size_t room);
 int32_t rattle_open_dir_at(int32_t folder, const char *name);
 
+/* Tells of the program, where this is its only word and asks for that, and ends it then. Not of one that does so by itself. */
+__attribute__((weak)) void covretin_program_about(const char *word);
+
 static size_t count;
 static char **words;
 
-/* The C library gives a constructor what it gives main. */
-__attribute__((constructor)) static void keep_arguments(int argc, char **argv) {
-    count = argc < 0 ? 0 : (size_t)argc;
-    words = argv;
+/* The system puts the arguments before the environment, behind their count: as musl gives a constructor none, they are found there. No address is
+ * as small as their count. */
+__attribute__((constructor)) static void keep_arguments(void) {
+    while ((uintptr_t)environ[-2 - (ptrdiff_t)count] != count)
+        count++;
+    words = environ - 1 - count;
+    if (covretin_program_about != NULL && count == 2)
+        covretin_program_about(words[1]);
 }
 
 int32_t rattle_errno(void) {

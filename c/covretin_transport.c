@@ -9,6 +9,8 @@
 #include <errno.h>
 #include <limits.h>
 #include <poll.h>
+#include <signal.h>
+#include <stdatomic.h>
 #include <stdlib.h>
 #include <string.h>
 #include <sys/ioctl.h>
@@ -105,6 +107,66 @@ void transport_close_socket(int socket, bool is_ended)
     calm_unread(socket);
     errno = was;
     transport_close(socket);
+}
+
+enum { MOST_CLOSING = 64, CLOSING_STACK = 65536 };
+static atomic_int closing; /* threads that are about to close a socket; a child of fork has none of its parent's */
+static pthread_once_t forks = PTHREAD_ONCE_INIT;
+
+static void forget_closing(void)
+{
+    closing = 0;
+}
+
+static void prepare_forks(void)
+{
+    pthread_atfork(NULL, NULL, forget_closing);
+}
+
+static void *close_in_thread(void *of)
+{
+    transport_close_socket((int)(intptr_t)of, false);
+    closing--;
+    return NULL;
+}
+
+bool transport_start_thread(pthread_t *thread, const pthread_attr_t *attributes, void *(*runs)(void *), void *of)
+{
+    sigset_t all, were;
+    int error;
+    sigfillset(&all);
+    pthread_sigmask(SIG_BLOCK, &all, &were);
+    error = pthread_create(thread, attributes, runs, of);
+    pthread_sigmask(SIG_SETMASK, &were, NULL);
+    return error == 0;
+}
+
+/* Whether there is a thread that closes it. */
+static bool start_closing(int socket)
+{
+    pthread_attr_t detached;
+    pthread_t thread;
+    bool starts;
+    pthread_once(&forks, prepare_forks);
+    if (closing++ >= MOST_CLOSING || pthread_attr_init(&detached)) {
+        closing--;
+        return false;
+    }
+    pthread_attr_setdetachstate(&detached, PTHREAD_CREATE_DETACHED);
+    pthread_attr_setstacksize(&detached, CLOSING_STACK);
+    starts = transport_start_thread(&thread, &detached, close_in_thread, (void *)(intptr_t)socket);
+    pthread_attr_destroy(&detached);
+    closing -= !starts;
+    return starts;
+}
+
+void transport_close_given(int socket)
+{
+    int unread = 0, was = errno;
+    bool has_unread = ioctl(socket, FIONREAD, &unread) == 0 && unread != 0;
+    if (!has_unread || !start_closing(socket))
+        transport_close(socket);
+    errno = was;
 }
 
 static void close_all(const int32_t *fds, size_t count)
@@ -388,7 +450,10 @@ struct transport *transport_new(const struct transport_side *side, void *session
 void transport_free(struct transport *transport)
 {
     close_came(transport);
-    transport_close_socket(transport->socket, transport->broken && !transport->side->is_given);
+    if (transport->side->is_given)
+        transport_close_given(transport->socket);
+    else
+        transport_close_socket(transport->socket, transport->broken);
     free(transport);
 }
 

@@ -6,6 +6,8 @@
 
 #include "covretin.h"
 
+#include <pthread.h>
+
 /* The calls of a session that bytes go through. */
 struct transport_side {
     size_t (*missing)(void *session);
@@ -136,12 +138,19 @@ void transport_hang_up(struct transport *transport);
 /* Whether one was noted; errno is then what it was. */
 bool transport_is_broken(const struct transport *transport);
 
+/* Starts a thread that takes no signal of the program's. Whether it could be started. */
+bool transport_start_thread(pthread_t *thread, const pthread_attr_t *attributes, void *(*runs)(void *), void *of);
+
 /* Closes a descriptor unless it is negative, and keeps errno. The linger time of a socket is ended first: its close does not wait. */
 void transport_close(int fd);
 
-/* Closes a connection's socket, and keeps errno. Nor does this wait for the sockets that wait unread in it. Where the connection has ended,
- * nothing more comes meanwhile; else whoever has the socket, too, goes on with it. */
+/* Closes a connection's socket that nobody else has, and keeps errno. Nor does this wait for the sockets that wait unread in it. Where the
+ * connection has ended, nothing more comes meanwhile. */
 void transport_close_socket(int socket, bool is_ended);
+
+/* The same of a socket that a peer gave, who may have it, too, and go on with it. Whoever looks at what is unread waits while another reads: so
+ * that is done in a thread that nobody waits for. Where too many of these wait already nobody looks. */
+void transport_close_given(int socket);
 
 /* Whether this is a stream socket of the family AF_UNIX. */
 enum covretin_error transport_check_socket(int fd);

@@ -2,16 +2,22 @@
 /* Negotiates with a backend at a Unix socket, sets it up, and reads back what it set.
  *
  *     frontend PATH         without descriptors, as ./vhost-daemon serves
- *     frontend PATH fds     with them: memory, rings, the inflight region
+ *     frontend PATH fds     with them: memory, a ring with one request, the inflight region; of any backend
  *
  * Prints a line for each call. Status 0 where the connection held, 1 after wrong arguments, 2 where something failed. */
+#ifndef _GNU_SOURCE
+#define _GNU_SOURCE /* for memfd_create */
+#endif
 #include "covretin_socket.h"
 
 #include <errno.h>
 #include <inttypes.h>
+#include <poll.h>
 #include <stdio.h>
 #include <stdlib.h>
 #include <string.h>
+#include <sys/eventfd.h>
+#include <sys/mman.h>
 #include <unistd.h>
 
 enum { LIMIT = 60000 }; /* milliseconds for a call */
@@ -75,16 +81,17 @@ static void negotiate(void)
     number("get_queue_num", covretin_ask_get_queue_num(session));
 }
 
-/* A file without a name that holds this text. */
-static int file_of(const char *text)
+/* The guest's low memory, as this program has it: a text, a ring, and a buffer of its driver's. */
+enum { SIZE = 0x5000, DESCRIPTORS = 0x1000, AVAILABLE = 0x2000, USED = 0x3000, BUFFER = 0x4000, BUFFER_SIZE = 64, RING_SIZE = 128 };
+enum { LOW_USER = 0x10000000, HIGH_AT = 0x1000, BASE = 77, TO_BE_WRITTEN = 2 };
+static uint8_t *memory;
+
+/* A file of memory that holds this text at a place. A device maps whole pages of it, so a region begins at one. */
+static int file_of(const char *text, off_t at, off_t size)
 {
-    FILE *file = tmpfile();
-    if (file == NULL || fputs(text, file) < 0 || fflush(file) != 0)
-        fail("tmpfile");
-    int fd = dup(fileno(file));
-    if (fd < 0)
-        fail("dup");
-    fclose(file);
+    int fd = memfd_create("guest", MFD_CLOEXEC);
+    if (fd < 0 || ftruncate(fd, size) || pwrite(fd, text, strlen(text), at) < 0)
+        fail("memfd_create");
     return fd;
 }
 
@@ -92,12 +99,15 @@ static int file_of(const char *text)
 static void set_memory(void)
 {
     covretin_region regions[2] = {
-        {.guest_phys_addr = 0, .memory_size = 0x1000, .user_addr = 0x7f0000000000, .fd = file_of("low memory")},
-        {.guest_phys_addr = 0x100000000, .memory_size = 0x2000, .user_addr = 0x7f0000100000, .mmap_offset = 5,
-         .fd = file_of("and high memory")},
+        {.guest_phys_addr = 0, .memory_size = SIZE, .user_addr = LOW_USER, .fd = file_of("low memory", 0, SIZE)},
+        {.guest_phys_addr = 0x100000000, .memory_size = 0x2000, .user_addr = 0x7f0000100000, .mmap_offset = HIGH_AT,
+         .fd = file_of("high memory", HIGH_AT, HIGH_AT + 0x2000)},
     };
     uint64_t bases[2];
     size_t count = 99;
+    memory = mmap(NULL, SIZE, PROT_READ | PROT_WRITE, MAP_SHARED, regions[0].fd, 0);
+    if (memory == MAP_FAILED)
+        fail("mmap");
     done("set_mem_table", covretin_ask_set_mem_table(&device.session, regions, 2));
     close(regions[0].fd);
     close(regions[1].fd);
@@ -105,34 +115,59 @@ static void set_memory(void)
     printf("bases: %d, %zu\n", error, count);
 }
 
+static uint16_t *word(size_t at)
+{
+    return (uint16_t *)(void *)(memory + at);
+}
+
+/* The driver makes a buffer available, to be written: what a source of entropy fills, and in what a disk says that it is no request. The
+ * device is to tell of it (with EVENT_IDX, too: the word behind the ring). */
+static void make_available(void)
+{
+    const uint64_t descriptor[2] = {BUFFER, BUFFER_SIZE | (uint64_t)TO_BE_WRITTEN << 32};
+    memcpy(memory + DESCRIPTORS, descriptor, sizeof descriptor);
+    *word(AVAILABLE + 4 + 2 * (BASE % RING_SIZE)) = 0;
+    *word(AVAILABLE + 4 + 2 * RING_SIZE) = BASE;
+    *word(USED + 2) = BASE;
+    __atomic_store_n(word(AVAILABLE + 2), BASE + 1, __ATOMIC_RELEASE);
+}
+
+/* Kicks the ring, and waits until the device calls. */
+static void use_ring(int kick, int call)
+{
+    struct pollfd called = {.fd = call, .events = POLLIN};
+    uint64_t count = 0;
+    make_available();
+    if (eventfd_write(kick, 1))
+        fail("kick");
+    if (poll(&called, 1, LIMIT) != 1 || eventfd_read(call, &count))
+        fail("call");
+    printf("kicked, called: %u used\n", (unsigned)(uint16_t)(__atomic_load_n(word(USED + 2), __ATOMIC_ACQUIRE) - BASE));
+}
+
 static void set_ring(bool with_fds)
 {
     covretin_session *session = &device.session;
     covretin_vring ring = {.queue_max_size = 256,
-                           .queue_size = 128,
-                           .desc_table_addr = 0x7f0000000000,
-                           .used_ring_addr = 0x7f0000000800,
-                           .avail_ring_addr = 0x7f0000000400};
-    done("set_vring_num", covretin_ask_set_vring_num(session, 0, 128));
+                           .queue_size = RING_SIZE,
+                           .desc_table_addr = LOW_USER + DESCRIPTORS,
+                           .used_ring_addr = LOW_USER + USED,
+                           .avail_ring_addr = LOW_USER + AVAILABLE};
+    int kick = with_fds ? eventfd(0, EFD_CLOEXEC) : -1, call = with_fds ? eventfd(0, EFD_CLOEXEC) : -1;
+    done("set_vring_num", covretin_ask_set_vring_num(session, 0, RING_SIZE));
     done("set_vring_addr", covretin_ask_set_vring_addr(session, 0, &ring));
-    done("set_vring_base", covretin_ask_set_vring_base(session, 0, 77));
+    done("set_vring_base", covretin_ask_set_vring_base(session, 0, BASE));
     if (with_fds) {
-        int kick[2], call[2];
-        char told = 0;
-        if (pipe(kick) || pipe(call))
-            fail("pipe");
-        done("set_vring_kick", covretin_ask_set_vring_kick(session, 0, kick[0]));
-        done("set_vring_call", covretin_ask_set_vring_call(session, 0, call[1]));
-        close(kick[0]);
-        close(call[1]);
-        /* The backend reads the kick, and writes to its end of `call`. */
-        if (write(kick[1], "k", 1) != 1 || read(call[0], &told, 1) != 1)
-            fail("ring");
-        printf("kicked, called: %c\n", told);
-        close(kick[1]);
-        close(call[0]);
+        done("set_vring_call", covretin_ask_set_vring_call(session, 0, call));
+        *word(AVAILABLE + 2) = *word(USED + 2) = BASE;
+        done("set_vring_kick", covretin_ask_set_vring_kick(session, 0, kick));
     }
     done("set_vring_enable", covretin_ask_set_vring_enable(session, 0, true));
+    if (with_fds) {
+        use_ring(kick, call);
+        close(kick);
+        close(call);
+    }
     number("get_vring_base", covretin_ask_get_vring_base(session, 0));
 }
 
@@ -155,7 +190,7 @@ static void set_config(void)
 /* The backend gives the inflight region, and is given it again. */
 static void set_inflight(void)
 {
-    covretin_inflight asked = {.num_queues = 2, .queue_size = 128}, given = {0};
+    covretin_inflight asked = {.num_queues = 1, .queue_size = RING_SIZE}, given = {0};
     int32_t fd = -1;
     char text[32] = {0};
     if (!done("get_inflight_fd", covretin_ask_get_inflight_fd(&device.session, &asked)))
@@ -177,9 +212,9 @@ static void be_refused(void)
 {
     covretin_session *session = &device.session;
     done("set_vring_num of 0", covretin_ask_set_vring_num(session, 0, 0));
-    done("set_vring_num of ring 9", covretin_ask_set_vring_num(session, 9, 128));
+    done("set_vring_num of ring 9", covretin_ask_set_vring_num(session, 9, RING_SIZE));
     done("set_mtu", covretin_ask_set_mtu(session, 1500));
-    done("set_vring_num again", covretin_ask_set_vring_num(session, 0, 128));
+    done("set_vring_num again", covretin_ask_set_vring_num(session, 0, RING_SIZE));
 }
 
 int main(int argc, char **argv)
@@ -191,8 +226,8 @@ int main(int argc, char **argv)
     }
     enum covretin_error error = covretin_connect(&device, argv[1], 2, LIMIT);
     if (error != COVRETIN_OK) {
-        const char *more = error == COVRETIN_SOCKET_CONNECT ? strerror(errno) : "no connection";
-        fprintf(stderr, "%s: %s (%s)\n", argv[1], covretin_error_text(error), more);
+        bool is_systems = error == COVRETIN_SOCKET_CONNECT || error == COVRETIN_SOCKET_ERROR; /* errno says more */
+        fprintf(stderr, "%s: %s%s%s\n", argv[1], covretin_error_text(error), is_systems ? ": " : "", is_systems ? strerror(errno) : "");
         return 2;
     }
     negotiate();

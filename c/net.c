@@ -4,7 +4,7 @@
  *     net PATH
  *
  * Listens at PATH and serves one frontend after another until SIGTERM or SIGINT; a second one at a time is hung up on. Prints a line for
- * each frontend that went. Status 0; 1 after wrong arguments; 2 where something failed.
+ * each frontend that went. Status 0; 2 after wrong arguments; 4 where something failed.
  *
  * A frame has 14 to 1518 bytes, behind a header. It comes back unchanged, in one buffer, behind a header of zeros, but that num_buffers is 1.
  * One of another length is dropped; so is one for which the guest has no buffer. A buffer that is too small is given back with 0 bytes
@@ -98,12 +98,13 @@ int main(int argc, char **argv)
     enum covretin_error error;
     if (argc != 2) {
         fprintf(stderr, "usage: net PATH\n");
-        return 1;
+        return 2;
     }
     setvbuf(stdout, NULL, _IOLBF, 0); /* also in a file, so that who is killed has said what it did */
     take_features(NULL, 0, 0);
     error = covretin_device_run(&calls, NULL, argv[1]);
+    bool is_systems = error == COVRETIN_SOCKET_ERROR; /* errno says more */
     if (error != COVRETIN_OK)
-        fprintf(stderr, "%s: %s (%s)\n", argv[1], covretin_error_text(error), strerror(errno));
-    return error == COVRETIN_OK ? 0 : 2;
+        fprintf(stderr, "%s: %s%s%s\n", argv[1], covretin_error_text(error), is_systems ? ": " : "", is_systems ? strerror(errno) : "");
+    return error == COVRETIN_OK ? 0 : 4;
 }

@@ -1,8 +1,9 @@
 /* SPDX-License-Identifier: Apache-2.0 */
-/* A source of entropy for a virtual machine, vhost-user-rng over covretin_device.h: rng PATH
+/* A source of entropy for a virtual machine, vhost-user-rng over covretin_device.h: rng PATH [pipe]
  *
  * Listens at PATH and serves one frontend after another until SIGTERM or SIGINT; a second one at a time is hung up on. A line says that one
- * went. Status 0; 1 after wrong arguments; 2 where something failed. */
+ * went. pipe: a frontend may have itself signalled by pipes and sockets, as User Mode Linux. Status 0; 2 after wrong arguments; 4 where
+ * something failed. */
 #include "covretin_device.h"
 
 #include <errno.h>
@@ -34,17 +35,22 @@ static void tell_end(void *none, enum covretin_error error)
     printf("a frontend went: %s\n", covretin_error_text(error));
 }
 
+static covretin_device_calls calls = {.queues = 1, .request = fill, .ended = tell_end};
+
+#ifndef COVRETIN_PROGRAM /* c/tools/ has a program with the same source */
 int main(int argc, char **argv)
 {
-    static const covretin_device_calls calls = {.queues = 1, .request = fill, .ended = tell_end};
-    if (argc != 2) {
-        fprintf(stderr, "usage: rng PATH\n");
-        return 1;
+    calls.calls_by_pipe = argc == 3 && strcmp(argv[2], "pipe") == 0;
+    if (argc != 2 + calls.calls_by_pipe) {
+        fprintf(stderr, "usage: rng PATH [pipe]\n");
+        return 2;
     }
     setvbuf(stdout, NULL, _IOLBF, 0); /* also in a file, so that who is killed has said what it did */
     enum covretin_error error = covretin_device_run(&calls, NULL, argv[1]);
     if (error == COVRETIN_OK)
         return 0;
-    fprintf(stderr, "%s: %s (%s)\n", argv[1], covretin_error_text(error), strerror(errno));
-    return 2;
+    bool is_systems = error == COVRETIN_SOCKET_ERROR; /* errno says more */
+    fprintf(stderr, "%s: %s%s%s\n", argv[1], covretin_error_text(error), is_systems ? ": " : "", is_systems ? strerror(errno) : "");
+    return 4;
 }
+#endif

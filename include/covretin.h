@@ -43,6 +43,8 @@ extern "C" {
 
 /* The version of this header. covretin_version() returns that of the library. */
 #define COVRETIN_VERSION "0.2.0"
+/* The same as a number, to be compared: two hexadecimal digits for each part. */
+#define COVRETIN_VERSION_NUMBER 0x000200
 
 /* The greatest number of descriptors that come with a message. */
 #define COVRETIN_MAX_FDS 32
@@ -406,6 +408,19 @@ enum covretin_error covretin_ask_postcopy_ack_mem_regions(covretin_session *sess
 
 /* The greatest size of what a frame carries. */
 enum covretin_error covretin_ask_set_mtu(covretin_session *session, uint16_t mtu);
+
+/* STACK, in bytes at most, with what the proved code calls but memory and copies. Written by scripts/stack.py:
+ *   20,480: take
+ *   12,288: ask_add_mem_region, ask_check_device_state, ask_get_config, ask_get_config_bytes, ask_get_features,
+ *        ask_get_inflight_fd, ask_get_max_mem_slots, ask_get_protocol_features, ask_get_queue_num, ask_get_shared_object,
+ *        ask_get_shmem_config, ask_get_vring_base, ask_postcopy_ack_mem_regions, ask_postcopy_advise, ask_postcopy_end,
+ *        ask_postcopy_listen, ask_remove_mem_region, ask_reset_device, ask_reset_owner, ask_set_backend_request_fd, ask_set_config,
+ *        ask_set_device_state_fd, ask_set_features, ask_set_inflight_fd, ask_set_log_base, ask_set_log_base_alone, ask_set_log_fd,
+ *        ask_set_mem_table, ask_set_mtu, ask_set_owner, ask_set_protocol_features, ask_set_vring_addr, ask_set_vring_base,
+ *        ask_set_vring_call, ask_set_vring_enable, ask_set_vring_err, ask_set_vring_kick, ask_set_vring_num, set_hdr_flags
+ *   8,192: receive
+ *   1,024: close, open
+ *   512: all others */
 
 #ifdef __cplusplus
 }

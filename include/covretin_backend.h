@@ -4,14 +4,22 @@
  *
  * A backend's session checks each request and makes its reply; the device, which is the caller's, is asked in between. It
  * makes no system call but for memory (malloc, realloc, free), waits for nothing, and has no global state: the caller hands in
- * what it read from its socket, and writes there what the session hands out. For each request:
+ * what it read from its socket, and writes there what the session hands out. A session from its first request to its last:
  *
- *     while ((n = covretin_backend_missing(&backend)) != 0)  read at most n bytes, with the descriptors that come along,
- *         covretin_backend_receive(&backend, ..);            and hand them in
- *     error = covretin_backend_next(&backend, &call);        0: what is asked of the device; else the request was refused
- *     covretin_call_vring(&backend, &index, &ring);          its arguments, by the form of the call
- *     error = covretin_reply_done(&backend);                 what the device replies, by the form of the call
- *     while (covretin_backend_to_send(&backend, ..) == 0 && n != 0)  send these bytes, with these descriptors on the first
+ *     while (error != COVRETIN_INVALID_MESSAGE && !covretin_backend_ended(&backend)) {
+ *         while ((n = covretin_backend_missing(&backend)) != 0) {
+ *             n = read_from(socket, bytes, n, fds, &count);            at most n bytes, with the descriptors that come along
+ *             if (n == 0 || covretin_backend_receive(&backend, bytes, n, fds, count) != COVRETIN_OK)
+ *                 return;                                              the frontend went, or memory is out
+ *         }
+ *         error = covretin_backend_next(&backend, &call);              0: what is asked of the device; else the request was refused
+ *         if (error == COVRETIN_OK)
+ *             answer(&backend, call);                                  reads its arguments and replies, each by the form of the call
+ *         while (covretin_backend_to_send(&backend, bytes, sizeof bytes, fds, COVRETIN_MAX_FDS, &n, &count) == 0 && n != 0)
+ *             write_to(socket, bytes, n, fds, count);                  all of them, with these descriptors on the first
+ *         while (covretin_backend_unclaimed(&backend, fds, COVRETIN_MAX_FDS, &count) == 0 && count != 0)
+ *             close_all(fds, count);                                   what came with the request, and nobody claimed
+ *     }
  *
  * The device is asked only what passed every check of its request, each request once, and it replies once before anything
  * else. covretin_backend_to_send comes after a refused request, too: it may be acknowledged.
@@ -138,7 +146,8 @@ void covretin_backend_close(covretin_backend *backend);
 
 /* How many bytes to read of the next request: first the 12 bytes of its header, less what came; once these have come, those
  * of the body that it announces, if its header is one of a request. 0 where covretin_backend_next may be called, and where a
- * call is to be replied to. Read no more than this: the system does not say at which byte descriptors came. */
+ * call is to be replied to. Read no more than this: the system does not say at which byte descriptors came. Ask
+ * covretin_backend_ended before: of a session that has ended this may be 12, and the frontend, which waits, sends nothing. */
 size_t covretin_backend_missing(covretin_backend *backend);
 
 /* Takes in bytes of a request: a part of those that are missing, or all, and the descriptors that came with the first of
@@ -181,8 +190,9 @@ enum covretin_error covretin_backend_abandon(covretin_backend *backend);
 /* Checks the request that came. 0: *call says what is asked of the device, which is to be replied to before anything else.
  * NO_SESSION; NOT_YET: it has not come whole; NOT_REPLIED: the call before is still to be replied to. After these three
  * nothing changed. All others refuse the request: the device is asked nothing, nothing of the request is left, and *call was
- * not written. INVALID_MESSAGE: it is malformed, its number is none of 1 to 44, or under VHOST nobody serves it; close the
- * session, once what is to be sent was sent. INVALID_OPERATION: under STANDARD nobody serves it, or postcopy is in another state.
+ * not written. INVALID_MESSAGE: it is malformed, as one with the flag of a reply, or under VHOST nobody serves its number, which under
+ * STANDARD is the device's as COVRETIN_CALL_OTHER, whatever it is; close the session, once what is to be sent was sent.
+ * INVALID_OPERATION: postcopy is in another state.
  * INACTIVE_FEATURE, INACTIVE_OPERATION: it wants a feature that was not accepted, which covretin_backend_inactive says.
  * INVALID_PARAM, INCORRECT_FDS, FRONTEND_INTERNAL_ERROR: its arguments are wrong. OUT_OF_MEMORY, SOCKET_RETRY: an allocation
  * failed. SOCKET_BROKEN: the session had ended before: close it. */
@@ -287,6 +297,14 @@ enum covretin_error covretin_reply_inflight(covretin_backend *backend, const cov
 
 /* To GET_SHMEM_CONFIG: how many regions the device has, and 256 sizes, 0 where there is no region; sizes_len is 256, else INVALID_PARAM. */
 enum covretin_error covretin_reply_shmem(covretin_backend *backend, const uint64_t *sizes, size_t sizes_len, uint32_t count);
+
+/* STACK, in bytes at most, with what the proved code calls but memory and copies. Written by scripts/stack.py:
+ *   12,288: reply_shmem
+ *   8,192: backend_next, backend_open, backend_receive, reply_bases, reply_config, reply_done, reply_fd, reply_inflight,
+ *        reply_number, reply_refused, reply_ring
+ *   2,048: call_regions
+ *   1,024: backend_close
+ *   512: all others */
 
 #ifdef __cplusplus
 }

@@ -61,7 +61,7 @@ typedef struct covretin_service {
 /* Makes a Unix socket at a path, and listens there. A socket that was left over, which nobody has open any more, is taken over;
  * anything else at the path stays. Where one was left over, and somebody holds a lock on its folder (flock), this waits for a
  * tenth of a second. SESSION_OPEN: the listener is there already. INVALID_PATH. SOCKET_ERROR: the system failed; EADDRINUSE: the
- * path is taken. OUT_OF_MEMORY. After an error nothing changed. */
+ * path is taken; EEXIST: what is there is no socket. OUT_OF_MEMORY. After an error nothing changed. */
 enum covretin_error covretin_listen(covretin_listener *listener, const char *path);
 
 /* The same with a Unix socket that listens already, as a service manager gives it. It is the listener's from then on, and does

@@ -243,6 +243,13 @@ enum covretin_error covretin_channel_reply_number(covretin_channel_server *serve
 /* Replies by the number of a system's error, as EINVAL, which is sent as its negative. */
 enum covretin_error covretin_channel_reply_errno(covretin_channel_server *server, int32_t number);
 
+/* STACK, in bytes at most, with what the proved code calls but memory and copies. Written by scripts/stack.py:
+ *   8,192: channel_ask_config_change, channel_ask_shared_object_add, channel_ask_shared_object_lookup,
+ *        channel_ask_shared_object_remove, channel_ask_shmem_map, channel_ask_shmem_unmap, channel_receive, channel_reply_errno,
+ *        channel_reply_number, channel_server_next, channel_server_receive
+ *   1,024: channel_close, channel_open, channel_server_close, channel_server_open
+ *   512: all others */
+
 #ifdef __cplusplus
 }
 #endif

@@ -23,6 +23,13 @@
  * socket, the session and each descriptor; signals, closing, limits of time and errors. A device is sent no descriptor: all that
  * come are closed. The caller passes &connection.channel to covretin_channel_set_.. and covretin_channel_ask_.., and &service.server to
  * covretin_channel_server_set_reply_ack, covretin_channel_call_.. and covretin_channel_reply_.., and to nothing else.
+ *
+ * A DEVICE'S SOCKET WAS GIVEN by the frontend, who may have kept a copy. The system lets one at a time read from a stream socket: where the
+ * frontend, or whoever else has a copy, reads from it into memory that does not come, as of a file system that he serves or of a
+ * userfaultfd, covretin_channel_exchange and covretin_channel_exchange_nowait wait in recvmsg for as long as he likes, once a reply is
+ * awaited. No limit of time and no signal ends that, also not SIGKILL; the end of that reader does, whatever ends him. So only a thread that
+ * nobody waits for exchanges with a frontend that is not trusted with that, or no reply is asked for
+ * (covretin_channel_set_reply_ack): what awaits none is only sent, and never waits. Nor does covretin_channel_disconnect.
  */
 #ifndef COVRETIN_CHANNEL_SOCKET_H
 #define COVRETIN_CHANNEL_SOCKET_H

@@ -23,12 +23,20 @@
  * under way are gone on with, and these are handed out again, with `again`.
  *
  * THE FRONTEND IS NOT TRUSTED. Only memory files are mapped (memfd, tmpfs, hugetlbfs), since the pages of another may be kept back by
- * whoever serves its file system. Descriptors to kick and call by are eventfds, and for calls pipes and stream sockets, too; none is
- * waited for, whatever its flags, and a frontend that floods a device is served in turns with its rings. A page that its file was truncated
- * of becomes zeros at its first touch, and the session ends with MEMORY_LOST; the system's own calls (pread and its like) fail there with
- * EFAULT, and then nothing is lost. That costs nothing until it happens, but takes a handler of SIGBUS, which is there from the first
- * session on and hands each other fault to the handler that was there before: install one of your own before that. Where a frontend
+ * whoever serves its file system. Descriptors to kick and call by are eventfds, unless `calls_by_pipe`; none is waited for, whatever its
+ * flags, nor is the backend channel, from which this part reads nothing: a peer that has a socket, too, can make whoever reads from it wait
+ * (covretin_channel_socket.h). A frontend that floods a device is served in turns, with its rings and with other devices. Where a frontend
  * begins postcopy, whoever touches a page that has not come waits for it until the frontend hangs up, or covretin_device_stop.
+ *
+ * MEMORY THAT IS TAKEN AWAY. A page that its file was truncated of becomes zeros at its first touch, and the session ends with MEMORY_LOST;
+ * the system's own calls (pread and its like) fail there with EFAULT, and then nothing is lost. That costs nothing until it happens, but
+ * takes a handler of SIGBUS, which is there from the first session on and hands each other fault to the handler that was there before:
+ * install one of your own before that. The system ends a process of which a thread touches such a page while it blocks SIGBUS: a thread that
+ * calls this part with a request, or covretin_device_serve, blocks that no more from then on; one of the device's own that was begun with all
+ * signals blocked, and touches segments before, has to say
+ *     sigset_t bus; sigemptyset(&bus); sigaddset(&bus, SIGBUS); pthread_sigmask(SIG_UNBLOCK, &bus, NULL);
+ * Where this part is compiled with COVRETIN_DEBUG, a device is not opened by a thread that blocks SIGBUS, from which its threads have that, nor
+ * where another handler is in the place of this part's: INVALID_PARAM.
  *
  * WHO OWNS WHAT
  * Devices: a variable of type covretin_device, {0} at first, belongs to the caller; it is not copied or written by him. The table of
@@ -38,10 +46,16 @@
  *   change it meanwhile: what is checked is copied before.
  * Descriptors: all are this part's but what `channel` takes.
  *
- * THREADS: covretin_device_serve calls back, one call at a time, and nothing else does. A callback may call covretin_request_done,
- * covretin_request_take and covretin_device_stop. Calls with one device must not overlap in time, but for these: any thread may call the
- * first two at any time, and the last until covretin_device_close begins, also in a signal handler. After covretin_device_serve has
- * reported the end, and after covretin_device_close began, nothing is called back.
+ * THREADS: A thread of this part, with all signals blocked, unmaps what takes long, and ends then; another watches a postcopy. The memory
+ * of a frontend that went may so be mapped a little longer than its session. covretin_device_serve calls back, one call at a time, and
+ * nothing else does. A callback may call covretin_request_done, covretin_request_take and covretin_device_stop. Calls with one device
+ * must not overlap in time, but for these: any thread may call the first two at any time, and the last until covretin_device_close
+ * begins, also in a signal handler. After covretin_device_serve has reported the end, and after covretin_device_close began, nothing is
+ * called back.
+ *
+ * A CALLBACK MAY THROW an exception of C++, or longjmp, out of covretin_device_serve: nothing is locked meanwhile. The session is of no use
+ * then but for covretin_device_close, and what `request` was given is still to be done. None may do so out of covretin_device_run, whose
+ * socket and signals nobody would give back.
  *
  * ERRORS are those of covretin.h, and of a queue those of covretin_queue.h. errno says more after SOCKET_ERROR.
  */
@@ -65,7 +79,7 @@ extern "C" {
 
 #define COVRETIN_DEVICE_MAX_QUEUES 64       /* of a device */
 #define COVRETIN_DEVICE_MAX_QUEUE_SIZE 1024 /* in descriptors; a request has as many segments at most */
-#define COVRETIN_DEVICE_MAX_REGIONS 509     /* of memory, of a session */
+#define COVRETIN_DEVICE_MAX_REGIONS 509     /* of memory, of a session; with those that requests under way keep 1,024 */
 
 /* A device that serves a frontend. {0} is none. */
 typedef struct covretin_device {
@@ -81,6 +95,15 @@ typedef struct covretin_request {
     bool again;             /* a device before took it, and did not complete it: it may have been done, or a part of it */
     void *own;              /* the device's; NULL at first */
 } covretin_request;
+
+/* What a device did, in all its sessions. Another thread may read each, which is of some moment. */
+typedef struct covretin_device_stats {
+    uint64_t sessions;        /* that began */
+    uint64_t requests, bytes; /* of the guest: those that the device got, and what they have to be read or written */
+    uint64_t kicks, calls;    /* how often the guest said that there is something, and was told that something is done */
+    uint64_t refusals;        /* requests of the frontend that were refused, or ended a session */
+    uint64_t longest_turn;    /* of covretin_device_serve, in nanoseconds */
+} covretin_device_stats;
 
 /* A device. Each callback gets `own` of covretin_device_open. All but `request` may be NULL. */
 typedef struct covretin_device_calls {
@@ -101,6 +124,12 @@ typedef struct covretin_device_calls {
      * after another is served sooner by that, while the processor is kept busy and the frontend's calls wait. Only done where the last request
      * came as soon as that. */
     uint32_t busy_poll_us;
+
+    /* Whether rings may be signalled by pipes and stream sockets, too, as User Mode Linux gives them; else by eventfds alone. Whoever gave one and
+     * reads from it into memory that does not come, as of a file system that he serves, makes this process wait as it signals, uninterruptibly:
+     * neither covretin_device_stop nor a signal ends that, but the end of that reader. So only for a frontend that is trusted with the time of
+     * all that this process serves. */
+    bool calls_by_pipe;
 
     /* A request is the device's. */
     void (*request)(void *own, covretin_request *request);
@@ -129,18 +158,31 @@ typedef struct covretin_device_calls {
     /* The driver broke a rule of a queue: nothing more is taken of it until the device is reset. */
     void (*broken)(void *own, uint32_t queue, enum covretin_queue_error error);
 
-    /* Another frontend came meanwhile, and was hung up on: of covretin_device_run. */
+    /* A descriptor of the device's own, as that of a tap or a terminal, and what is called where it is readable while a frontend is there: of
+     * covretin_device_run and its like. It takes requests by covretin_device_take. False: there was none for what is to be
+     * read, or was: it is called again, and only then, after the device had something to do, as of a kick. */
+    int input;
+    bool (*input_ready)(void *own, covretin_device *device);
+
+    /* Another frontend came meanwhile, and was hung up on: of covretin_device_run and covretin_device_run_listener. */
     void (*turned_away)(void *own);
 
     /* The session has ended, for this reason, and no request is left. The last callback. */
     void (*ended)(void *own, enum covretin_error error);
+
+    /* Where is counted; it stays there as long as the table. NULL: nowhere. */
+    covretin_device_stats *stats;
+
+    /* 0: room for what later versions add, so that a table of today has none of it. One that has more than this version knows is
+     * INVALID_PARAM. */
+    uint64_t later[16];
 } covretin_device_calls;
 
 /* -- A session -------------------------------------------------------------------------------------------------------- */
 
 /* Serves the next frontend that waits at a listener, which is not waited for. NO_SESSION: there is no listener; SESSION_OPEN: the device
- * serves one; INVALID_PARAM: the table has no request, or too many queues or none; TIMED_OUT: no frontend waits; SOCKET_ERROR: the system
- * failed; OUT_OF_MEMORY. After an error nothing changed, but that a frontend may have been hung up on. */
+ * serves one; INVALID_PARAM: the table has no request, too many queues or none, or what this version does not know; TIMED_OUT: no frontend
+ * waits; SOCKET_ERROR: the system failed; OUT_OF_MEMORY. After an error nothing changed, but that a frontend may have been hung up on. */
 enum covretin_error covretin_device_open(covretin_device *device, const covretin_device_calls *calls, void *own,
                                          covretin_listener *listener);
 
@@ -151,10 +193,14 @@ enum covretin_error covretin_device_open_fd(covretin_device *device, const covre
 /* What to wait for: it is readable where covretin_device_serve has something to do. It stays the device's. -1: there is no session. */
 int covretin_device_fd(const covretin_device *device);
 
-/* Does what is to be done, and waits for nothing. NOT_YET: it goes on; call it again once the descriptor is readable. All else ends the
+/* Does what is to be done, and waits for nothing. Who has many devices in one loop calls it in turns: it returns after 0.8 milliseconds, with
+ * the call or request that is under way by then, whatever a frontend or guest sends; beside that count the callbacks, which are the device's.
+ * What is left is done by the next call. NOT_YET: it goes on; call it again once the descriptor is readable. All else ends the
  * session, and each further call returns the same: DISCONNECTED, PARTIAL_MESSAGE, INVALID_MESSAGE: the frontend went, between two requests,
  * in a header, in a body, or the last sent what is none; MEMORY_LOST: it took memory away that was in use, or went while a page was waited
- * for; STOPPED: covretin_device_stop; OUT_OF_MEMORY, SOCKET_ERROR, SOCKET_BROKEN, FDS_LOST: as of covretin_next_call. The frontend is hung
+ * for; STOPPED: covretin_device_stop; OUT_OF_MEMORY, SOCKET_ERROR, FDS_LOST: as of covretin_next_call, SOCKET_ERROR also where the system
+ * refused to signal the eventfd of a driver; any other: what `refused` was told of a
+ * request that no reply refuses, as BACKEND_INTERNAL_ERROR of GET_VRING_BASE of a ring that the device has not. The frontend is hung
  * up on at once; where the device has requests, the end is reported once they are done, so that the next frontend finds nothing under way.
  * NO_SESSION. */
 enum covretin_error covretin_device_serve(covretin_device *device);
@@ -169,7 +215,9 @@ void covretin_device_close(covretin_device *device);
 /* -- Requests --------------------------------------------------------------------------------------------------------- */
 
 /* The request is done, and so many bytes were written, from the first that is to be written on: the driver is notified. From any thread.
- * It is no more. Where the session has ended meanwhile the driver hears nothing. */
+ * It is no more. Where the session has ended meanwhile the driver hears nothing. While a frontend has the dirty log on, these bytes are logged;
+ * and of those behind them, which the device may have written and does not say, the first mebibyte and the last, in which a status stands. What
+ * a device writes between these two has to be said, or may be lost where its guest moves. */
 void covretin_request_done(covretin_request *request, uint32_t written);
 
 /* Takes a request of a queue of `taken_queues`, which is as one that was handed out: of the device that has this request, from any thread; or
@@ -185,12 +233,31 @@ bool covretin_request_is_lost(const covretin_request *request);
 size_t covretin_request_read(covretin_request *request, void *bytes, size_t len);
 size_t covretin_request_write(covretin_request *request, const void *bytes, size_t len);
 
+/* -- Saying why ------------------------------------------------------------------------------------------------------- */
+
+enum covretin_level { COVRETIN_LEVEL_ERROR, COVRETIN_LEVEL_WARNING, COVRETIN_LEVEL_INFO };
+
+/* Has each device of the process say, in a line, why it refused a request, who ended a session, and by which rule of a queue a driver broke it:
+ * "SET_MEM_TABLE refused: region 0 is 65536 bytes at 0 of its file, which has 4096". NULL: nobody listens, as at first, and nothing is made. The
+ * text is lent, has no end of line, and names no path and nothing of guest memory. At most 20 lines come in a second; how many were left out is
+ * said with a later one. `log` may be called by any thread that serves a device, one call at a time; it calls nothing of this library. */
+void covretin_set_log(void (*log)(void *own, enum covretin_level level, const char *text), void *own);
+
 /* -- All of it -------------------------------------------------------------------------------------------------------- */
 
 /* Listens at a path, and serves one frontend after another until SIGTERM or SIGINT comes, which are blocked meanwhile in this thread:
- * threads that are begun before have to block them, too. Another frontend at a time is hung up on. 0: a signal came; else it could not
- * listen, as covretin_listen says, or not go on: SOCKET_ERROR, OUT_OF_MEMORY. */
+ * threads that are begun before have to block them, too. Another frontend at a time is hung up on. 0: a signal came; INVALID_PARAM: the
+ * table is none, and nothing was made at the path; else it could not listen, as covretin_listen says, or not go on: SOCKET_ERROR,
+ * OUT_OF_MEMORY. */
 enum covretin_error covretin_device_run(const covretin_device_calls *calls, void *own, const char *path);
+
+/* The same with a listener that is there, as one of a service manager's socket. It stays the caller's. NO_SESSION: there is none. */
+enum covretin_error covretin_device_run_listener(const covretin_device_calls *calls, void *own, covretin_listener *listener);
+
+/* Serves the one frontend of a socket that is connected already, until that goes or SIGTERM or SIGINT comes, as above. 0: a signal came; else
+ * why the session ended, as covretin_device_serve says, or why it could not begin, as covretin_device_open_fd says, which then leaves the
+ * socket the caller's. */
+enum covretin_error covretin_device_run_fd(const covretin_device_calls *calls, void *own, int fd);
 
 #ifdef __cplusplus
 }

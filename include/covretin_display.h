@@ -200,6 +200,15 @@ enum covretin_error covretin_display_ask_cursor_pos_hide(covretin_display *displ
 /* The cursor has a new image, of COVRETIN_DISPLAY_CURSOR_SIZE bytes, which the caller sends himself (see PIXELS). */
 enum covretin_error covretin_display_ask_cursor_update(covretin_display *display, const covretin_display_cursor_update *update);
 
+/* STACK, in bytes at most, with what the proved code calls but memory and copies. Written by scripts/stack.py:
+ *   8,192: display_ask_cursor_pos, display_ask_cursor_pos_hide, display_ask_cursor_update, display_ask_get_display_info,
+ *        display_ask_get_edid, display_ask_get_protocol_features, display_ask_set_dmabuf_scanout, display_ask_set_dmabuf_scanout2,
+ *        display_ask_set_protocol_features, display_ask_set_scanout, display_ask_update_dmabuf_scanout, display_ask_update_scanout,
+ *        display_receive
+ *   4,096: display_take_edid
+ *   1,024: display_close, display_open, display_take, display_take_display_info, display_take_number
+ *   512: all others */
+
 #ifdef __cplusplus
 }
 #endif

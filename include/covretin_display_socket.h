@@ -17,6 +17,9 @@
  *
  * Pixels stay the caller's. They are read where they lie, and never copied: they have to stay there, and as they are, until the
  * exchange is over, as what an ask was given has to.
+ *
+ * The socket was given by the frontend: an exchange that awaits a reply may wait as long as whoever has a copy of it likes, as
+ * covretin_channel_socket.h says. Closing it does not.
  */
 #ifndef COVRETIN_DISPLAY_SOCKET_H
 #define COVRETIN_DISPLAY_SOCKET_H

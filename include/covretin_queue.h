@@ -12,12 +12,10 @@
  *     while (count-- != 0) {
  *         covretin_queue_head_place(&queue, &place);             the next entry of the available ring
  *         covretin_queue_pop(&queue, head = read16(place));      the chain of this head is the device's
- *         for (;;) {
- *             covretin_queue_descriptor_place(&queue, &place, &found);
- *             if (!found) break;                                 the chain is at its end
- *             if (place.len != 0) descriptor = read(place);      else what was read goes on in another region
- *             covretin_queue_step(&queue, &descriptor, &segment, &found);
- *             if (found) ..                                      a segment of the request; else an indirect table follows
+ *         for (covretin_queue_table(&queue, &walked.table); walked.table.goes_on; segments += walked.count, room -= walked.count) {
+ *             count = copy(&walked.table, copies);               the descriptors from table.next on, each read once
+ *             covretin_queue_walk(&queue, copies, count, segments, room, &walked);
+ *             if (walked.taken < count) ..                       there is no room for all segments
  *         }
  *         ..                                                     the request is served, now or later
  *         covretin_queue_add_used(&queue, head, len, &used);     what is to be written: elem, and then, by a releasing write, then
@@ -25,9 +23,22 @@
  *     covretin_queue_notification_place(&queue, &place);         what the driver asks for; a full barrier lies before
  *     covretin_queue_needs_notification(&queue, read16(place), 0, &told_of);
  *
+ * What is copied is a part of the chain, as long as the caller likes: up to a descriptor without NEXT, or with INDIRECT, behind which the chain
+ * goes on in another table; or up to one whose next is beyond the table, by which the chain is refused. Nothing else of the copies is to be
+ * looked at. covretin_queue_step does the same by one descriptor a call, for whoever reads them one by one:
+ *
+ *         for (;;) {
+ *             covretin_queue_descriptor_place(&queue, &place, &found);
+ *             if (!found) break;                                 the chain is at its end
+ *             if (place.len != 0) descriptor = read(place);      else what was read goes on in another region
+ *             covretin_queue_step(&queue, &descriptor, &segment, &found);
+ *             if (found) ..                                      a segment of the request; else an indirect table follows
+ *         }
+ *
  * Of a packed queue the same but for the heads: covretin_queue_available takes the flags of the next place, and reports one chain at
- * most, which is followed at once. Its id, by which it is used, is that of the last descriptor that was read before the chain's end
- * or an indirect table. Four bytes are read for covretin_queue_needs_notification: a place and flags.
+ * most, which is followed at once. The next descriptor is the one behind, round the ring's end, and all of an indirect table are the chain's.
+ * Its id, by which it is used, is that of the last descriptor that was read before the chain's end or an indirect table. Four bytes are read
+ * for covretin_queue_needs_notification: a place and flags.
  *
  * WHO OWNS WHAT
  * Buffers: each pointer is borrowed for the call alone. What is `const` is only read; the others are only written. Two of them must
@@ -38,7 +49,8 @@
  *   same one must not overlap in time; each queue has its own memory, so that a device's queues may be in threads of their own. Not
  *   from a signal handler.
  *
- * ERRORS are numbers of enum covretin_queue_error; 0 is none. After an error no other argument was written. No call makes a system
+ * ERRORS are numbers of enum covretin_queue_error; 0 is none. After an error no other argument was written, but for the segments of
+ * covretin_queue_walk, which are none then. No call makes a system
  * call but for memory (malloc, free), waits for anything, or has a global state.
  */
 #ifndef COVRETIN_QUEUE_H
@@ -71,8 +83,7 @@ enum covretin_queue_error {
     COVRETIN_QUEUE_NOT_IN_GUEST = 9,            /* a range does not lie in one region */
     COVRETIN_QUEUE_EMPTY_DESCRIPTOR = 10,       /* a descriptor has no bytes */
     COVRETIN_QUEUE_NOT_IN_TABLE = 11,           /* a head or a next descriptor is not in its table */
-    COVRETIN_QUEUE_DESCRIPTOR_LOOP = 12,        /* a descriptor comes twice in its chain */
-    COVRETIN_QUEUE_CHAIN_TOO_LONG = 13,         /* more descriptors than the queue has, or than 1024 where it has fewer and INDIRECT_DESC */
+    COVRETIN_QUEUE_CHAIN_TOO_LONG = 13,         /* a loop; more descriptors than the queue has, or than 1024 where it has fewer and INDIRECT_DESC */
     COVRETIN_QUEUE_READABLE_AFTER_WRITABLE = 14,
     COVRETIN_QUEUE_UNEXPECTED_INDIRECT = 15,    /* an indirect table was not negotiated, or lies in another */
     COVRETIN_QUEUE_INDIRECT_GOES_ON = 16,       /* a descriptor of an indirect table goes on */
@@ -150,6 +161,20 @@ typedef struct covretin_segment {
     uint64_t guest_addr; /* where the guest has it */
     bool writable;       /* whether the device writes it; else it only reads it */
 } covretin_segment;
+
+/* Where a chain goes on. */
+typedef struct covretin_table {
+    covretin_range range; /* of the table that it is in, 16 bytes a descriptor */
+    uint16_t next;        /* which of these is to be read next */
+    bool goes_on;         /* false: the chain is at its end, and nothing is to be read */
+} covretin_table;
+
+/* How far a chain was followed. */
+typedef struct covretin_walked {
+    size_t taken;         /* the descriptors that are behind it, of those that were given */
+    size_t count;         /* its segments */
+    covretin_table table; /* where it goes on */
+} covretin_walked;
 
 /* What is to be written once a chain was used: the first elem.len bytes of elem_value, little-endian, and then, by a releasing
  * write, then_value as two bytes. */
@@ -262,6 +287,13 @@ enum covretin_queue_error covretin_queue_pop(covretin_queue *queue, uint16_t hea
 /* A split queue's head was the device's before a crash, and its chain is followed again. Errors are those of covretin_queue_pop. */
 enum covretin_queue_error covretin_queue_resubmit(covretin_queue *queue, uint16_t head);
 
+/* The last entry of a split queue's available ring that was read is to be read again, and this head, which it had, is not the device's; the
+ * chain that is followed is none. So what was taken last is given back first. And a head is the device's, whose chain was taken before the queue
+ * was started, and is not followed: it can be used. NOT_HANDED_OUT, TOO_MANY_AVAILABLE; NOT_IN_TABLE, HEAD_IN_USE; OTHER_LAYOUT: nothing
+ * changed. */
+enum covretin_queue_error covretin_queue_give_back(covretin_queue *queue, uint16_t head);
+enum covretin_queue_error covretin_queue_adopt(covretin_queue *queue, uint16_t head);
+
 /* A chain was a packed queue's before a crash, and is followed again: until it has left the ring, its descriptors are those that the inflight
  * region has, and none is read at its place. OTHER_LAYOUT, NEEDS_RESET. */
 enum covretin_queue_error covretin_queue_resubmit_packed(covretin_queue *queue);
@@ -273,6 +305,13 @@ enum covretin_queue_error covretin_queue_resubmit_packed(covretin_queue *queue);
 enum covretin_queue_error covretin_queue_descriptor_place(covretin_queue *queue, covretin_range *place, bool *found);
 enum covretin_queue_error covretin_queue_step(covretin_queue *queue, const covretin_descriptor *descriptor, covretin_segment *segment,
                                               bool *found);
+
+/* Where the chain that is followed goes on; and that the descriptors from there on were read as these, one behind the other: what as many steps
+ * would answer, by one call. They are not all taken where the segments fill their places before: the chain goes on with the rest of them then.
+ * A refusal is the step's of the first descriptor that is refused; those before it were taken. */
+enum covretin_queue_error covretin_queue_table(covretin_queue *queue, covretin_table *table);
+enum covretin_queue_error covretin_queue_walk(covretin_queue *queue, const covretin_descriptor *copies, size_t copies_len,
+                                              covretin_segment *segments, size_t segments_len, covretin_walked *walked);
 
 /* The device is done with the chain of this head, or of this id, and wrote so many bytes: what is to be written. In any order of
  * chains, and from a queue that needs a reset, too. NOT_HANDED_OUT. */
@@ -336,6 +375,10 @@ enum covretin_queue_error covretin_inflight_recover_packed(const covretin_inflig
  * written. And the bit of a page, which is set by an atomic or. */
 enum covretin_queue_error covretin_log_pages(uint64_t addr, uint64_t len, uint64_t log_size, uint64_t *first, uint64_t *end);
 void covretin_log_bit_of(uint64_t page, covretin_log_bit *bit);
+
+/* STACK, in bytes at most, with what the proved code calls but memory and copies. Written by scripts/stack.py:
+ *   1,024: inflight_recover (for each level of a sort), inflight_recover_packed (for each level of a sort)
+ *   512: all others */
 
 #ifdef __cplusplus
 }

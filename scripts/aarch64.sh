@@ -19,7 +19,7 @@ probe=$!
 sleep 2
 stands=$(ps -o pid=,state= --ppid "$probe" | awk '$2 != "Z" { print $1 }')
 if [ -n "$stands" ]; then
-    COVRETIN_LEFT_OUT='anything limits_time_of_a_trickle goes_on_after_signals connects_again slow_display'
+    COVRETIN_LEFT_OUT='anything limits_time_of_a_trickle goes_on_after_signals waits_without_a_limit connects_again slow_display'
 fi
 kill -9 $stands "$probe" 2>/dev/null
 wait "$probe" 2>/dev/null

@@ -3,12 +3,14 @@
 import hashlib
 import os
 import re
+import shutil
 import subprocess
+import sys
 
-# What the sessions for C are compiled with beside the checker's words, so that a call of theirs is few functions from its export on: between
+# What the libraries for C are compiled with beside the checker's words, so that a call of theirs is few functions from its export on: between
 # functions values are copied from place to place. Both sessions' round trip of GET_FEATURES takes 4,012 instructions without this, and
 # covretin has 185 KB of code; with it 2,799 and 614 KB. A threshold of 1,000: 3,414 and 237 KB; of 20,000: 2,601 and 840 KB, and no faster
-# by the clock.
+# by the clock. A queue's chain of eight takes 2,525 instructions without this, and 1,862 with it.
 INLINED = " ".join(
     f"-mllvm -{it}"
     for it in (
@@ -20,13 +22,70 @@ INLINED = " ".join(
     )
 )
 
-# Keeps the words of each call, and the files that they name, in a folder by its number. The checker calls it with no environment.
-COMPILER = '''#!/bin/sh
-n=$(/bin/ls "{folder}/kept" | /usr/bin/wc -l)
-/bin/mkdir "{folder}/kept/$n" && printf '%s\\n' "$@" >"{folder}/kept/$n/words"
-for word; do [ ! -f "$word" ] || /bin/cp "$word" "{folder}/kept/$n/"; done
-exec "{theirs}/bin/clang" {flags} "$@"
-'''
+# What each function is compiled with beyond what the checker asks for: its frame is described at each instruction (.cfi), so that debuggers,
+# profilers and exceptions find the way through it to whoever called; and a branch that is not direct lands where one may (endbr64, bti), with the
+# return address signed where the processor can (paciasp). And the flags of the module that tell the linker so (.note.gnu.property).
+PROTECTED = {
+    "x86_64": ("uwtable", ("cf-protection-branch", "cf-protection-return")),
+    "aarch64": (
+        'uwtable "branch-target-enforcement" "sign-return-address"="non-leaf" "sign-return-address-key"="a_key"',
+        ("branch-target-enforcement", "sign-return-address"),
+    ),
+}
+DEFINED = re.compile(r"^define .*$", re.M)
+# (behind names, which may have any character)
+GROUP = re.compile(r" #(\d+)")
+FLAGS = "!llvm.module.flags"
+
+
+def protected(module, machine):
+    """A module of LLVM, as text, with these attributes and flags."""
+    attributes, flags = PROTECTED[machine]
+    groups = [GROUP.search(re.sub(r'"[^"]*"', "", it)) for it in DEFINED.findall(module)]
+    assert groups and all(groups), "a function has no attributes"
+    for it in {group[1] for group in groups}:
+        module, count = re.subn(rf"^(attributes #{it} = {{.*) }}$", lambda found: f"{found[1]} {attributes} }}", module, flags=re.M)
+        assert count == 1, f"no attributes #{it}"
+    # (8: the module that is linked with it has both, or neither)
+    free = 1 + max(map(int, re.findall(r"^!(\d+) = ", module, re.M)), default=-1)
+    lines = [f'!{free + at} = !{{i32 8, !"{flag}", i32 1}}' for at, flag in enumerate(flags)]
+    named = ", ".join(f"!{free + at}" for at in range(len(flags)))
+    module, count = re.subn(rf"^({FLAGS} = !{{.*)}}$", lambda found: f"{found[1]}, {named}}}", module, flags=re.M)
+    return "\n".join([module, *([] if count else [f"{FLAGS} = !{{{named}}}"]), *lines, ""])
+
+
+def compile_kept(theirs, folder, flags, words):
+    """What stands for the compiler: keeps the words of a call and the files that they name, in a folder by its number, and compiles them, where
+    that makes code with each function protected. It takes the compiler's place, and does not return."""
+    compiler, kept = f"{theirs}/bin/clang", f"{folder}/kept/{len(os.listdir(f'{folder}/kept'))}"
+    os.mkdir(kept)
+    if "-c" in words:
+        at = words.index("ir") + 1
+        if words[at].endswith(".bc"):
+            text = f"{words[at][:-3]}.ll"
+            # (the order of uses, which passes follow, is kept)
+            how = ["-S", "-emit-llvm", "-Xclang", "-disable-llvm-passes", "-Xclang", "-emit-llvm-uselists"]
+            target = next(it for it in words if it.startswith("--target="))
+            subprocess.run([compiler, target, *how, "-x", "ir", words[at], "-o", text], check=True)
+            words[at] = text
+        with open(words[at], encoding="utf-8") as it:
+            module = protected(it.read(), next(machine for machine in PROTECTED if f"--target={machine}-" in " ".join(words)))
+        with open(words[at], "w", encoding="utf-8") as it:
+            it.write(module)
+    with open(f"{kept}/words", "w", encoding="utf-8") as it:
+        it.write("".join(f"{word}\n" for word in words))
+    for it in filter(os.path.isfile, words):
+        shutil.copy(it, kept)
+    os.execv(compiler, [compiler, *flags.split(), *words])
+
+
+# The checker calls it with no environment.
+COMPILER = """#!{python}
+import sys
+sys.path.insert(0, {scripts!r})
+from assembly import compile_kept
+compile_kept({theirs!r}, {folder!r}, {flags!r}, sys.argv[1:])
+"""
 
 
 def keeping(theirs, folder, flags=""):
@@ -37,8 +96,9 @@ def keeping(theirs, folder, flags=""):
     for it in os.listdir(f"{theirs}/bin"):
         if it != "clang":
             os.symlink(f"{theirs}/bin/{it}", f"{folder}/bin/{it}")
+    scripts = os.path.dirname(os.path.realpath(__file__))
     with open(f"{folder}/bin/clang", "w", encoding="utf-8") as it:
-        it.write(COMPILER.format(folder=folder, theirs=theirs, flags=flags))
+        it.write(COMPILER.format(python=sys.executable, scripts=scripts, theirs=theirs, folder=folder, flags=flags))
     os.chmod(f"{folder}/bin/clang", 0o755)
 
 
@@ -52,7 +112,21 @@ def assembly(theirs, folder, flags=""):
     # (comments would double the size, and a table of addresses says nothing to a linker of another toolchain)
     subprocess.run([f"{theirs}/bin/clang", *flags.split(), *words, "-fPIC", "-fno-verbose-asm", "-fno-addrsig"], cwd=kept, check=True)
     with open(f"{kept}/module.s", encoding="utf-8") as it:
-        return named(it.read())
+        return named(assembled_alone(it.read()))
+
+
+# What .note.gnu.property says once more, in words that assemblers up to 2024 do not know.
+ATTRIBUTES = re.compile(r"^\t\.aeabi_(?:subsection|attribute)\t.*\n", re.M)
+# The note, up to the next section.
+NOTE = re.compile(r"^\t\.section\t\.note\.gnu\.property,.*\n(?:.*\n)*?(?=\t\.text\n)", re.M)
+
+
+def assembled_alone(text):
+    """The same, where the note stands for this code alone: what takes it into a module of its own code sets the symbol, since the note would
+    speak of that, too."""
+    text, count = NOTE.subn(lambda it: f"\t.ifndef\tcovretin_in_a_module\n{it[0]}\t.endif\n", ATTRIBUTES.sub("", text))
+    assert count == 1, "the assembly has no note"
+    return text
 
 
 # A function's name where its code begins, and the end of it, whose number its other labels have.

@@ -104,6 +104,8 @@ def main(words):
         print("usage: c_library.py [--current | --watched]", file=sys.stderr)
         sys.exit(3)
     are_there = all(is_current(NAME, it, PARTS) for it in (ARCHIVE, VERDICT, ASSEMBLY))
+    # (how it is compiled stands there)
+    are_there = are_there and os.path.getmtime(f"{TOP}/scripts/assembly.py") <= os.path.getmtime(ASSEMBLY)
     if words == ["--current"]:
         sys.exit(0 if are_there else 1)
     if not shutil.which("rt"):

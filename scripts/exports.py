@@ -136,6 +136,7 @@ EQUATIONS = {
 
 # The same of the calls of a queue, whose contracts are written out.
 BROKEN = "the queue needs a reset; after NO_QUEUE, NOT_STARTED, OTHER_LAYOUT, NOTHING_AVAILABLE and CHAIN_ENDED nothing changed"
+WALKED = "the descriptors before the refused one were taken, and the queue needs a reset but after NO_QUEUE, NOT_STARTED and CHAIN_ENDED; the segments are none"
 QUEUES = {
     "open": ("QUEUE_OPEN OUT_OF_MEMORY", NOTHING),
     "set_regions": ("NO_QUEUE INVALID_REGION REGION_OVERLAP TOO_MANY_REGIONS OUT_OF_MEMORY", NOTHING),
@@ -159,6 +160,10 @@ QUEUES = {
     "resubmit": ("NO_QUEUE NOT_STARTED OTHER_LAYOUT NOT_IN_TABLE HEAD_IN_USE NEEDS_RESET", BROKEN),
     "resubmit_packed": ("NO_QUEUE NOT_STARTED OTHER_LAYOUT NEEDS_RESET", NOTHING),
     "step": ("NO_QUEUE NOT_STARTED CHAIN_ENDED NEEDS_RESET and what the guest wrote: NOT_IN_GUEST to HEAD_IN_USE", BROKEN),
+    "table": ("NO_QUEUE", NOTHING),
+    "walk": ("NO_QUEUE NOT_STARTED CHAIN_ENDED NEEDS_RESET and what the guest wrote: NOT_IN_GUEST to HEAD_IN_USE", WALKED),
+    "give_back": ("NO_QUEUE NOT_STARTED OTHER_LAYOUT NOT_HANDED_OUT TOO_MANY_AVAILABLE", NOTHING),
+    "adopt": ("NO_QUEUE NOT_STARTED OTHER_LAYOUT NOT_IN_TABLE HEAD_IN_USE", NOTHING),
     "add_used": ("NO_QUEUE NOT_STARTED NOT_HANDED_OUT", NOTHING),
     "needs_notification": ("NO_QUEUE NOT_STARTED", NOTHING),
 }

@@ -5,12 +5,16 @@
   scripts/generate.py                 writes all of it: generated/MACHINE-linux/ of x86_64 and aarch64
   scripts/generate.py NAME..          writes these alone: x86_64/covretin, x86_64/covretin_queue, x86_64/vhost-run, x86_64/vhost-daemon,
                                       aarch64/covretin, aarch64/covretin_queue
-  scripts/generate.py --compare       writes nothing, and compares what is there with what is proved now, instruction by instruction
-  scripts/generate.py --current NAME  status 0 where that one was made of the sources as they are, else 1; it needs no kit
+  scripts/generate.py --compare       writes nothing, and compares what is there with what is proved now, whole (same_code.py)
+  scripts/generate.py --check         whether each file of code is the one that its verdict has the sum of, and was made of the sources as they
+                                      are: it names each that is not, takes a second, and needs no kit
+  scripts/generate.py --sums          writes these sums anew for what is there, as after a merge of generated/; it needs no kit, and proves nothing
+  scripts/generate.py --current NAME  status 0 where that one is whole and was made of the sources as they are, else 1; it needs no kit
   scripts/generate.py --program NAME  the same, and assembles the program on this machine, in out/ of its crate, and prints where it is
 
-In a machine's folder NAME.s is the code; NAME.verdict has the functions in C that its proof assumes, and the line in which the checker says
-what is proved; and NAME.sources the sum of the sources that it was made of, and the kit that proved it. What is made depends on nothing else, and names no place.
+In a machine's folder NAME.s is the code; NAME.verdict has the functions in C that its proof assumes, the line in which the checker says
+what is proved, and the sum of NAME.s; and NAME.sources the sum of the sources that it was made of, the kit that proved it, and below the sum
+of each source, as sha256sum reads them. What is made depends on nothing else, and names no place.
 
 The libraries below have to be there, as ./test leaves them. For x86_64 the library is what scripts/c_library.py builds, which proves it
 where a source is newer. Each of the others is a proof of its last crate: a minute or two of one processor, and some ten of the library for
@@ -26,9 +30,10 @@ import sys
 import tempfile
 from concurrent.futures import ThreadPoolExecutor
 
+import stack
 from assembly import INLINED, assembly, keeping
 from build import PARTS, TOP, crates_below, dependencies, kit, lacking, root_of, words_over
-from verdict import LISTING, verdict_of
+from verdict import LISTING, sum_line, verdict_of
 
 # The crate of each, with the kind, target and processor of its code: it runs on every processor of the family.
 X86_64 = ("x86_64-unknown-linux-gnu", "x86-64")
@@ -61,25 +66,56 @@ def text_of(path):
         return it.read()
 
 
-def sum_of(crate):
-    """The sum of all sources that a crate is made of, and of which libraries each uses."""
-    found = hashlib.sha256()
+def sources_of(crate):
+    """The sum of each source that a crate is made of, and which libraries each crate uses."""
     for name in crates_below(crate):
-        found.update(f"{name}: {' '.join(dependencies()[name])}\n".encode())
+        yield f"# {name}: {' '.join(dependencies()[name])}\n"
         for part in PARTS:
             for at, folders, files in os.walk(f"{TOP}/crates/{name}/{part}"):
                 folders.sort()
                 for file in sorted(files):
                     with open(f"{at}/{file}", "rb") as it:
                         inside = hashlib.sha256(it.read()).hexdigest()
-                    found.update(f"{os.path.relpath(f'{at}/{file}', TOP)} {inside}\n".encode())
-    return found.hexdigest()
+                    yield f"{inside}  {os.path.relpath(f'{at}/{file}', TOP)}\n"
+
+
+def sum_of(listing):
+    return hashlib.sha256("".join(listing).encode()).hexdigest()
+
+
+def is_whole(name):
+    """Whether the code is the file that the verdict has the sum of. Where it is another, a line says so."""
+    path = place(name)
+    if not os.path.isfile(f"{path}.s") or not os.path.isfile(f"{path}.verdict"):
+        return False
+    if sum_line(f"{os.path.basename(path)}.s", text_of(f"{path}.s")) in text_of(f"{path}.verdict"):
+        return True
+    print(f"generate: generated/{os.path.relpath(path, f'{TOP}/generated')}.s is not the file that was proved", file=sys.stderr)
+    return False
+
+
+def other_source(name):
+    """The first source that is not the one that it was made of; None where each is."""
+    path = f"{place(name)}.sources"
+    listing = list(sources_of(MADE[name][0]))
+    said = text_of(path).splitlines(keepends=True) if os.path.isfile(path) else []
+    if said and said[0].startswith(f"# {sum_of(listing)} "):
+        return None
+    differ = sorted({*listing} ^ {*said[1:]}, key=lambda it: it.split()[1])
+    return differ[0].split()[1].rstrip(":") if differ and said[1:] else "a source"
 
 
 def is_current(name):
-    """Whether it was made of the sources as they are."""
-    path = f"{place(name)}.sources"
-    return os.path.isfile(path) and text_of(path).startswith(f"{sum_of(MADE[name][0])} ")
+    """Whether it is whole, and was made of the sources as they are."""
+    return is_whole(name) and other_source(name) is None
+
+
+def check(name):
+    """The same, and a line says what is not so."""
+    whole, other = is_whole(name), other_source(name)
+    if other:
+        print(f"generate: {name} was made of other sources: {other} is not the one that was proved", file=sys.stderr)
+    return whole and not other
 
 
 def program(name):
@@ -118,8 +154,9 @@ def prove(name, room):
     need_libraries([crate])
     kit_folder, folder = kit(), f"{room}/toolchain"
     # (of a program the checker makes an object)
-    made = f"{room}/made.{'o' if root_of(crate) == 'src/main.rt' else 'a'}"
-    flags = INLINED if crate == "vhost_c" else ""
+    is_program = root_of(crate) == "src/main.rt"
+    made = f"{room}/made.{'o' if is_program else 'a'}"
+    flags = "" if is_program else INLINED
     keeping(f"{kit_folder}/toolchain", folder, flags)
     words = [f"{kit_folder}/bin/rattle", "build", *words_of(crate, kit_folder, of, folder, made)]
     how = {"stdin": subprocess.DEVNULL, "stdout": subprocess.PIPE, "stderr": subprocess.STDOUT}
@@ -148,9 +185,30 @@ def write(name):
         _, code, verdict = proved(name, room)
     os.makedirs(os.path.dirname(place(name)), exist_ok=True)
     identity = subprocess.run(["rt", "version"], check=True, stdout=subprocess.PIPE, text=True).stdout.strip()
-    for end, text in (("s", code), ("verdict", verdict), ("sources", f"{sum_of(MADE[name][0])} {identity}\n")):
+    write_parts(name, code, verdict, identity)
+
+
+def write_parts(name, code, verdict, identity):
+    """Writes code, the verdict with the sum of it, and the sums of its sources."""
+    listing = list(sources_of(MADE[name][0]))
+    verdict += sum_line(f"{os.path.basename(place(name))}.s", code)
+    for end, text in (("s", code), ("verdict", verdict), ("sources", f"# {sum_of(listing)} {identity}\n{''.join(listing)}")):
         with open(f"{place(name)}.{end}", "w", encoding="utf-8") as it:
             it.write(text)
+
+
+def write_sums(name):
+    """Writes the sums anew, of code that was made of the sources as they are; of other code that of the code alone, and False."""
+    path = place(name)
+    code, verdict, first = text_of(f"{path}.s"), text_of(f"{path}.verdict"), text_of(f"{path}.sources").partition("\n")[0]
+    verdict = "".join(it for it in verdict.splitlines(keepends=True) if not it.endswith(f"  {os.path.basename(path)}.s\n"))
+    if first.startswith(f"# {sum_of(sources_of(MADE[name][0]))} "):
+        write_parts(name, code, verdict, first.split(" ", 2)[2])
+        return True
+    with open(f"{path}.verdict", "w", encoding="utf-8") as it:
+        it.write(verdict + sum_line(f"{os.path.basename(path)}.s", code))
+    print(f"generate: {name} was made of other sources, which have to be proved: scripts/generate.py {name}", file=sys.stderr)
+    return False
 
 
 def tools(name):
@@ -170,8 +228,8 @@ def is_same(made, code, with_tools):
 
 def compare(name):
     """Whether one is the code that is proved now, and one changed branch would be found. It says so in a line."""
-    if not is_current(name):
-        print(f"generated_{name}: FAILED: it was made of other sources: scripts/generate.py {name}")
+    if not check(name):
+        print(f"generated_{name}: FAILED: scripts/generate.py {name}")
         return False
     with_tools = tools(name)
     if with_tools is None:
@@ -184,7 +242,8 @@ def compare(name):
         with open(f"{room}/planted.s", "w", encoding="utf-8") as it:
             it.write(text_of(code).replace(*branches[name.partition("/")[0]], 1))
         planted, _ = is_same(made, f"{room}/planted.s", with_tools)
-    held = same and not planted and verdict == text_of(f"{place(name)}.verdict")
+    said_of_it = text_of(f"{place(name)}.verdict")
+    held = same and not planted and verdict + sum_line(f"{os.path.basename(place(name))}.s", text_of(code)) == said_of_it
     print(f"{said}generated_{name}: {'ok' if held else 'FAILED'}", flush=True)
     return held
 
@@ -205,6 +264,11 @@ def main(words):
         made = program(words[1])
         print(made or "", end="\n" if made else "")
         return 0 if made else 1
+    if words in (["--check"], ["--sums"]):
+        # (each, and not up to the first that is not)
+        held = [(check if words == ["--check"] else write_sums)(it) for it in MADE]
+        print(f"{held.count(True)} passed, {held.count(False)} failed")
+        return 0 if all(held) else 1
     if words == ["--compare"]:
         held = compare_all()
         print(f"{held.count(True)} passed, {held.count(False)} failed")
@@ -214,6 +278,8 @@ def main(words):
         return 2
     for it in words or MADE:
         write(it)
+    # (what the headers say of the stack is of this code)
+    stack.write()
     return 0
 
 

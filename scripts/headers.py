@@ -2,7 +2,7 @@
 # SPDX-License-Identifier: Apache-2.0
 """scripts/headers.py: whether each constant of the headers for C, and of the foreign calls in Rust, is that of the code; and whether the
 feature that a frontend's call needs is the same in the header, in the package for Rust and in docs/protocol/asking.md. Names and forms of
-requests are compared by scripts/requests.py.
+requests are compared by scripts/requests.py. And whether the headers say how much stack each export takes (scripts/stack.py).
 
 Status 0 where all are; 1 where some are not: each is printed, with what stands there and what is wanted.
 """
@@ -10,13 +10,15 @@ import os
 import re
 import sys
 
+import stack
+
 TOP = os.path.dirname(os.path.dirname(os.path.realpath(__file__)))
 MESSAGE = "crates/vhost_message/src"
 
 # The headers' names of refusals that no error of the protocol is: a socket's, and a device's.
 OF_SOCKETS = {"TIMED_OUT", "FDS_LOST", "INVALID_PATH", "MEMORY_LOST", "STOPPED"}
 # Constants whose values say nothing of the code's: a device's features are virtio's, and how many queues it has is its own.
-OWN = {"COVRETIN_VERSION", "COVRETIN_DEVICE_MAX_QUEUES", "COVRETIN_DEVICE_VERSION_1", "COVRETIN_DEVICE_INDIRECT_DESC"}
+OWN = {"COVRETIN_VERSION", "COVRETIN_VERSION_NUMBER", "COVRETIN_DEVICE_MAX_QUEUES", "COVRETIN_DEVICE_VERSION_1", "COVRETIN_DEVICE_INDIRECT_DESC"}
 OWN |= {"COVRETIN_DEVICE_EVENT_IDX", "COVRETIN_DEVICE_RING_PACKED"}
 
 
@@ -175,6 +177,7 @@ def main():
                 wrong.append(f"{path}: {name} is {value}, and of the code {code[glue[name]]}")
     wrong += wrong_queue_errors()
     wrong += wrong_needs(constants(f"{MESSAGE}/protocol_bit.rt"))
+    wrong += stack.wrong()
     print("\n".join(wrong + [f"headers: {len(met)} constants, {len(wrong)} wrong"]))
     return bool(wrong)
 

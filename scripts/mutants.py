@@ -42,12 +42,14 @@ class Function:
 
 @dataclass
 class Mutant:
-    """An edit of a crate: its texts, each with its file and what takes its place, and the functions that it changes."""
+    """An edit of a crate: its texts, each with its file and what takes its place, the functions that it changes, and what the compiler says
+    of the first, where it is the compiler that refuses it."""
 
     crate: str
     path: str
     edits: list
     functions: list
+    told: str = ""
 
     def name(self):
         return os.path.basename(self.path).removesuffix(".edit")
@@ -80,6 +82,11 @@ def edits_in(path):
         elif kind == "new":
             found.append((file, old, text))
     return found
+
+
+def error_in(path):
+    """What the compiler says of an edit, where it does not come to the prover: the line 'told: '."""
+    return next((line.removeprefix("told: ") for line in read(path).splitlines() if line.startswith("told: ")), "")
 
 
 def last_name(text):
@@ -144,7 +151,7 @@ def mutant_in(crate, path):
         functions.append(function_at(crate, file, text, text.index(old)))
     if not edits:
         raise Broken("it has no lines 'file: ', 'old: ' and 'new: '")
-    return Mutant(crate, path, edits, list(dict.fromkeys(functions)))
+    return Mutant(crate, path, edits, list(dict.fromkeys(functions)), error_in(f"{TOP}/{path}"))
 
 
 def mutants_of(crate, folder, broken):
@@ -162,10 +169,12 @@ def mutants_of(crate, folder, broken):
 
 
 def rounds_of(mutants):
-    """Mutants by the checks that they share: in one check each is of other functions than the others."""
+    """Mutants by the checks that they share: in one check each is of other functions than the others. An error of the compiler ends a check,
+    so that a mutant that it refuses has one of its own."""
     rounds = []
     for mutant in mutants:
-        fits = (it for it in rounds if not {*mutant.functions} & {function for other in it for function in other.functions})
+        shared = [it for it in rounds if not mutant.told and not it[0].told]
+        fits = (it for it in shared if not {*mutant.functions} & {function for other in it for function in other.functions})
         taken = next(fits, None)
         if taken is None:
             rounds.append(taken := [])
@@ -238,8 +247,17 @@ def judged_function(crate, function, told):
     return PROVED
 
 
+def is_error_at(function, error, told):
+    """Whether the compiler tells of this error inside a function."""
+    lines = re.findall(rf"(?m)^(?:\./)?{re.escape(function.file)}:(\d+):\d+: error\S* .*{re.escape(error)}", told)
+    return any(function.first <= int(line) <= function.last for line in lines)
+
+
 def judged(mutant, told):
-    """What the prover did with a mutant: that of one of its functions is enough to refuse it."""
+    """What the prover did with a mutant: that of one of its functions is enough to refuse it. Or the compiler, where the mutant names its
+    error."""
+    if mutant.told:
+        return REFUSED if is_error_at(mutant.functions[0], mutant.told, told) else reason(told)
     if not re.search(r"(?m)^only=\d+ proved=\d+$", told):
         return reason(told)
     found = [judged_function(mutant.crate, it, told) for it in mutant.functions]

@@ -85,6 +85,7 @@ def versions():
     for path, pattern in (
         ("include/covretin.h", r'COVRETIN_VERSION\s+"([^"]*)"'),
         ("rust/Cargo.toml", r'(?m)^version = "([^"]*)"'),
+        ("rust/check/Cargo.toml", r'(?m)^version = "([^"]*)"'),
         ("crates/vhost_daemon/src/main.rt", r'"vhost-daemon ([0-9.]+)"'),
         ("debian/changelog", r"\Acovretin \(([0-9.]+)\)"),
     ):
@@ -92,6 +93,11 @@ def versions():
             found = re.search(pattern, file.read())
         if found and found[1] != version:
             yield f"{path}: version {found[1]}, and VERSION says {version}"
+    major, minor, patch = (int(part) for part in version.split("."))
+    wanted = f"#define COVRETIN_VERSION_NUMBER 0x{major:02x}{minor:02x}{patch:02x}\n"
+    with open(f"{TOP}/include/covretin.h", encoding="utf-8") as file:
+        if wanted not in file.read():
+            yield f"include/covretin.h: VERSION says {wanted.strip()}"
 
 
 def main():

@@ -19,6 +19,13 @@ need_rt() {
     exit "${missing:-3}"
 }
 
+# Ends where a program is not there, and says which package has it.
+need() {
+    said=$("$top/scripts/needs.sh" "$@" 2>&1) && return
+    tell "$said"
+    exit "${missing:-3}"
+}
+
 # Help and version are answered before anything is compiled.
 case $#:${1-} in
 1:-h | 1:--help)

@@ -22,7 +22,7 @@ from request_tables import by_hand
 REQUEST = "set_mtu"
 PAGE = "docs/ARCHITECTURE.md"
 MARK = re.compile(r"(?<=<!-- places.py -->\n).*?(?=\n<!-- -->)", re.DOTALL)
-LEFT_OUT = [":!scripts/places.py", f":!{PAGE}", ":!generated", ":!docs/exports.tsv", ":!c/fuzz/corpus", ":!c/real/probed", ":!rust/fuzz", ":!rust/tests/recordings", ":!crates/*/must-fail", ":!mutants"]
+LEFT_OUT = [":!scripts/places.py", f":!{PAGE}", ":!generated", ":!docs/exports.tsv", ":!c/fuzz/corpus", ":!c/real/probed", ":!rust/fuzz", ":!rust/check", ":!rust/tests/recordings", ":!crates/*/must-fail", ":!mutants"]
 
 # Where a file stands that only tests or shows.
 OF_TESTS = ("tests/", "c/tests/", "c/real/", "c/fuzz/", "c/bench/", "rust/tests/", "rust/examples/")

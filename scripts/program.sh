@@ -69,6 +69,8 @@ prove() {
 run() {
     is_current "$proved" src specs proofs && exec "$proved" "$@"
     assembled=$("$top/scripts/generate.py" --program "x86_64/$program") && exec "$assembled" "$@"
+    # (of generated/ the proved program is made by a C compiler)
+    command -v rt >/dev/null || need cc headers
     compile "$@"
     exec "$unproved" "$@"
 }

@@ -1,15 +1,21 @@
 # SPDX-License-Identifier: Apache-2.0
-"""Runs `rt ci`, passes on what it prints, and tells on standard error how far it is. `./test` calls it: progress.py rt ci"""
+"""Runs `rt ci`, passes on what it prints, and tells on standard error how far it is; then runs the proved `vhost-run` with each allocation
+refused in turn. The last line counts both. `./test` calls it: progress.py rt ci"""
 import re
 import subprocess
 import sys
 import threading
 import time
 
-from build import dependencies
+from build import TOP, dependencies
 
 # How many seconds lie between two lines.
 PAUSE = 120
+
+# What is run beside the proofs, over what they built.
+REFUSED = [f"{TOP}/scripts/refused-memory.sh", "vhost-run"]
+
+COUNTS = re.compile(r"(\d+) passed, (\d+) failed$")
 
 DONE = re.compile(r"rt: (\w+) (?:proved|NOT PROVED|is kept)\b")
 
@@ -25,19 +31,36 @@ def watch(done, crates, is_over):
         tell(f"{len(done)} of {crates} crates proved after {(time.time() - began) / 60:.0f} minutes")
 
 
+def passed_on(lines, done):
+    """Passes lines on but for the counts, which it answers: how many passed and how many failed."""
+    counts = [0, 0]
+    for line in lines:
+        text = line.decode(errors="replace")
+        counted = COUNTS.match(text)
+        if counted:
+            counts = [int(it) for it in counted.groups()]
+            continue
+        sys.stdout.buffer.write(line)
+        sys.stdout.buffer.flush()
+        found = DONE.match(text)
+        if found:
+            done.add(found[1])
+    return counts
+
+
 def main(words):
     crates, done, is_over = len(dependencies()), set(), threading.Event()
     tell(f"proves {crates} crates, and tries their mutants: about 100 minutes on four processors where nothing is kept")
     threading.Thread(target=watch, args=(done, crates, is_over), daemon=True).start()
     with subprocess.Popen(words, stdout=subprocess.PIPE) as running:
-        for line in running.stdout:
-            sys.stdout.buffer.write(line)
-            sys.stdout.buffer.flush()
-            found = DONE.match(line.decode(errors="replace"))
-            if found:
-                done.add(found[1])
+        passed, failed = passed_on(running.stdout, done)
     is_over.set()
-    return max(running.returncode, 0) or (2 if running.returncode else 0)
+    status = max(running.returncode, 0) or (2 if running.returncode else 0)
+    if not status:
+        status = min(subprocess.run(REFUSED, check=False).returncode, 1)
+        passed, failed = passed + 1 - status, failed + status
+    print(f"{passed} passed, {max(failed, int(status != 0))} failed", flush=True)
+    return status
 
 
 if __name__ == "__main__":

@@ -24,8 +24,8 @@ SHOWN = 12
 # Where the scripts are, and what their player prints of each.
 SCRIPTS, PRINTED = "tests/scripts", "tests/printed"
 
-# What tries the program of lines where no script can.
-ROWS = "scripts/try_run.py"
+# What tries the program of lines where no script can, and beside a table and a model.
+ROWS = ("scripts/try_run.py", "scripts/try_lines.py")
 
 # What plays lines, and all other sessions, as the crate of a program and whether it is its tests: the library is of no program.
 RUN, LIBRARY = ("vhost_run", False), ("the library for C", False)
@@ -84,7 +84,8 @@ def plays_of(crate):
         words = read(f"{folder}/args").decode().split("\n")
         yield Play(crate, f"crates/{crate}", [it for it in words if it], read(f"{folder}/stdout"))
     if crate == RUN[0]:
-        yield Play(crate, ROWS, rows=True)
+        for path in ROWS:
+            yield Play(crate, path, rows=True)
     for at, _, names in sorted(os.walk(f"{folder}/src")):
         for name in sorted(names):
             path = f"{at}/{name}"

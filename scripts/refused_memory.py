@@ -52,7 +52,7 @@ def refuse_all(words, given, library, room):
             same += 1
         elif ended == status and is_of_the_device(whole, wrote):
             device += 1
-        elif ended == 4 and whole.startswith(wrote):
+        elif ended == 2 and whole.startswith(wrote):
             front += 1
         else:
             other += 1
@@ -72,7 +72,7 @@ def main():
         for words, given in runs:
             sums = [a + b for a, b in zip(sums, refuse_all(words, given, library, room))]
     same, device, front, other = sums
-    print(f"vhost-run: {len(runs)} runs, {sum(sums)} failed allocations: {same} ended as else, {device} with a refusal of the device, {front} with status 4, {other} otherwise")
+    print(f"vhost-run: {len(runs)} runs, {sum(sums)} failed allocations: {same} ended as else, {device} with a refusal of the device, {front} with status 2, {other} otherwise")
     return 1 if other else 0
 
 

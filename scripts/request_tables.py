@@ -27,6 +27,11 @@ def calls(kinds):
     return {it["call"]: it for it in kinds["frontend"] + kinds["call"] if "call" in it}
 
 
+def own_calls(kinds):
+    """The same, without the words that make another one's call."""
+    return {name: it for name, it in calls(kinds).items() if "wider" not in it}
+
+
 def bare(kinds):
     """Those without an argument."""
     return [name for name, it in calls(kinds).items() if "words" not in it]
@@ -82,7 +87,8 @@ def asks(kinds, _):
     for name, it in calls(kinds).items():
         missing = len(re.sub(r".*?\[(.*)\]|.*", r"\1", it.get("usage", "")).split())
         answer = forms.get(form(it)[1], "PLAIN") if "c" in it else "PLAIN"
-        rows.append(f'{{"{name}", "{it.get("words", "")}", {missing}, {name if name != "set_hdr_flags" else "NULL"}, {answer}}},')
+        makes = "NULL" if name == "set_hdr_flags" else it.get("wider", name)
+        rows.append(f'{{"{name}", "{it.get("words", "")}", {missing}, {makes}, {answer}}},')
     return rows
 
 
@@ -132,6 +138,10 @@ def wants(kinds, _):
     return [f'{it["name"]} => "{it.get("wants", "no descriptor")}",' for it in kinds["frontend"]]
 
 
+def wants_in_c(kinds, _):
+    return [f'[{it["code"]}] = "{it.get("wants", "no descriptor")}",' for it in kinds["frontend"]]
+
+
 def replied(kinds, _):
     return [f"FrontendReq::{it['name']}," for it in kinds["frontend"] if it["reply"] != "ack"]
 
@@ -176,7 +186,7 @@ def plain_calls(kinds, _):
     forms = {"ring": "number", "bases": "", "done": ""}
     apart = {"set_hdr_flags", "set_mem_table", "add_mem_region", "remove_mem_region", "set_log_base", "set_vring_addr", "set_config",
              "get_shared_object", "get_inflight_fd", "set_inflight_fd"}
-    for name, it in calls(kinds).items():
+    for name, it in own_calls(kinds).items():
         if name in apart:
             continue
         words = [reader(it, at, letter) for at, letter in enumerate(it.get("words", ""))]
@@ -263,7 +273,7 @@ def same(it, argument):
 
 def compared(kinds, lines):
     rows = []
-    for name, it in calls(kinds).items():
+    for name, it in own_calls(kinds).items():
         variant, args = f"FrontendCall::{camel(name)}", it.get("args", "").split()
         if not args:
             row = [f"{variant} => matches!(b, {variant}),"]
@@ -277,7 +287,7 @@ def compared(kinds, lines):
 
 def copied(kinds, lines):
     rows = []
-    for name, it in calls(kinds).items():
+    for name, it in own_calls(kinds).items():
         variant, args = f"FrontendCall::{camel(name)}", it.get("args", "").split()
         values = [f"copied(alloc, {arg})?" if arg in ("regions", "buffer") else f"*{arg}" for arg in args]
         if name == "set_hdr_flags":
@@ -296,6 +306,7 @@ TABLES = {
     "include/covretin_backend.h": {"calls": lambda kinds, _: enum(kinds, "frontend", "COVRETIN_CALL_")},
     "include/covretin_channel.h": {"calls": lambda kinds, _: enum(kinds, "backend", "COVRETIN_CHANNEL_CALL_", "_MSG")},
     "c/covretin_text.c": {"requests of a frontend": names_in_c("frontend"), "requests of a backend": names_in_c("backend")},
+    "c/covretin_log.c": {"what is wanted": wants_in_c},
     "c/ask_calls.c": {"calls without an argument": asks_bare, "calls": asks},
     "c/tests/peer.h": {"codes": lambda kinds, _: [f"{it['name']} = {it['code']}," for it in kinds["frontend"]]},
     "rust/src/vhost_user/message.rs": {"requests of a frontend": codes("frontend"), "requests of a backend": codes("backend")},
@@ -309,10 +320,11 @@ TABLES = {
     "tests/player/calls.py": {"calls of one word an argument": plain_calls},
     "tests/player/device.py": {"calls": device_calls},
     "vhost-run": {"calls": usages},
-    f"{MESSAGE}/src/frontend_req.rt": {"variants": variants("frontend"), "numbers": numbers("frontend", "FrontendReq"),
-                                       "requests": read_numbers("frontend", "FrontendReq")},
+    f"{MESSAGE}/src/frontend_req.rt": {"variants": variants("frontend", True), "requests": read_numbers("frontend", "FrontendReq")},
+    f"{MESSAGE}/src/heard_req.rt": {"variants": variants("frontend"), "numbers": numbers("frontend", "HeardReq"),
+                                    "requests": read_numbers("frontend", "HeardReq")},
     f"{MESSAGE}/src/backend_req.rt": {"variants": variants("backend", True), "requests": read_numbers("backend", "BackendReq")},
-    f"{MESSAGE}/specs/FrontendReq.antt": {"numbers": numbers_in_logic("frontend", "request_number")},
+    f"{MESSAGE}/specs/HeardReq.antt": {"numbers": numbers_in_logic("frontend", "request_number")},
     f"{DISPLAY}/src/gpu_backend_req.rt": {"variants": variants("display", True), "requests": read_numbers("display", "GpuBackendReq")},
     "crates/vhost_lines/src/call_words/why.rt": {"calls": words, "help": helped},
     "crates/vhost_lines/src/call_words/table.rt": {"calls": readers},

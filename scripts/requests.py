@@ -22,10 +22,10 @@ import subprocess
 import sys
 
 from request_rows import rows as like_rows
-from request_tables import SOURCE, TABLES, served, written
+from request_tables import SOURCE, TABLES, own_calls, served, written
 
 TOP = os.path.dirname(os.path.dirname(os.path.realpath(__file__)))
-KEYS = {"code", "name", "like", "call", "device", "words", "usage", "args", "body", "fds", "reply", "feature", "c", "wants", "shown", "reply_shown", "text"}
+KEYS = {"code", "name", "like", "call", "device", "wider", "words", "usage", "args", "body", "fds", "reply", "feature", "c", "wants", "shown", "reply_shown", "text"}
 
 # Calls for C that are forms of another one.
 FORMS_IN_C = {"set_log_base_alone", "get_config_bytes"}
@@ -96,7 +96,7 @@ def calls(kinds, told):
     """The calls of a frontend, and of a device to a display, and their words in lines."""
     words = {it["call"]: it.get("words", "") for it in kinds["frontend"] + kinds["call"] if "call" in it}
     asked = set(re.findall(r"covretin_ask_(\w+)\(", read("include/covretin.h"))) - FORMS_IN_C
-    told.all("include/covretin.h", "the call", dict.fromkeys(asked, True), dict.fromkeys({*words} - {"set_hdr_flags"}, True))
+    told.all("include/covretin.h", "the call", dict.fromkeys(asked, True), dict.fromkeys({*own_calls(kinds)} - {"set_hdr_flags"}, True))
     asked = set(re.findall(r"covretin_display_ask_(\w+)\(", read("include/covretin_display.h")))
     told.all("include/covretin_display.h", "the call", dict.fromkeys(asked, True), {it["call"]: True for it in kinds["display"]})
     rust = set(re.findall(r"^    (?:pub )?fn (\w+)\(", read("rust/src/vhost_user/frontend.rs"), re.MULTILINE))

@@ -1,29 +1,23 @@
 #!/usr/bin/env python3
 # SPDX-License-Identifier: Apache-2.0
-"""scripts/style.py: whether the pages are short, and their sentences.
+"""scripts/style.py: whether the sentences of the pages are short, their links lead somewhere, and README is one page.
 
-All pages together have at most 150 KB. A sentence has at most 35 words, where code and a link's address count as one or none; tables, blocks of
-code and headings have no sentences. 'what' stands at most six times in a thousand words of a page. A measured figure, which is a number with a
-unit of time, of size or of a count, stands on one page: others link to it.
+A sentence has at most 35 words, where code and a link's address count as one or none; tables, blocks of code and headings have no sentences.
+A link within the repository leads to a file that is there. README has at most 120 lines. A page is otherwise as long as its reader needs.
 
 Status 0 where all holds; 1 where some does not: each is printed with its page.
 """
+import os
 import re
 import subprocess
 import sys
-import os
-from collections import defaultdict
 
 TOP = os.path.dirname(os.path.dirname(os.path.realpath(__file__)))
 
-MOST_BYTES = 150_000
 MOST_WORDS = 35
-MOST_WHATS = 6
+MOST_LINES = {"README.md": 120}
 
-UNITS = "minutes?|seconds?|milliseconds?|microseconds?|nanoseconds?|ns|instructions|KB|MB|GB|%|percent|lines|hours?|tests|cases|sessions"
-FIGURE = re.compile(rf"(?<![\w.,-])(\d[\d,.]*\d|\d+)[ \u00a0]?({UNITS})(?!\w)")
-# History may repeat what a page says today, and the protocol's own limits are no measurements.
-NOT_MEASURED = {"CHANGELOG.md", "docs/DECISIONS.md"}
+LINK = re.compile(r"\[[^\]]*\]\(([^)#\s]+)(?:#[^)]*)?\)")
 
 
 def pages():
@@ -54,38 +48,23 @@ def sentences(text):
 
 
 def faults(page, text):
-    """What is wrong with the sentences of a page."""
-    plain = prose(text)
-    for sentence in sentences(plain):
+    """What is wrong with a page."""
+    for sentence in sentences(prose(text)):
         count = len(sentence.split())
         if count > MOST_WORDS:
             yield f"{page}: a sentence of {count} words: {sentence[:80]}"
-    words = len(re.findall(r"[A-Za-z']+", plain))
-    whats = len(re.findall(r"\bwhat\b", plain, re.IGNORECASE))
-    if whats * 1000 > MOST_WHATS * words:
-        yield f"{page}: 'what' stands {whats} times in {words} words"
-
-
-def repeated(texts):
-    """The measured figures that stand on several pages."""
-    found = defaultdict(set)
-    for page, text in texts.items():
-        if page not in NOT_MEASURED:
-            for number, unit in FIGURE.findall(text):
-                found[number.replace(",", ""), unit.rstrip("s")].add(page)
-    for (number, unit), where in sorted(found.items()):
-        if len(where) > 1:
-            yield f"{number} {unit} stands on {len(where)} pages: {', '.join(sorted(where))}"
+    for link in LINK.findall(text):
+        if "://" not in link and not link.startswith("mailto:") and not os.path.exists(os.path.join(TOP, os.path.dirname(page), link)):
+            yield f"{page}: a link leads nowhere: {link}"
+    lines = text.count("\n")
+    if lines > MOST_LINES.get(page, lines):
+        yield f"{page}: {lines} lines, and may have {MOST_LINES[page]}"
 
 
 def main():
     texts = {page: read(page) for page in pages()}
     wrong = [fault for page, text in texts.items() for fault in faults(page, text)]
-    wrong += repeated(texts)
-    size = sum(len(text.encode()) for text in texts.values())
-    if size > MOST_BYTES:
-        wrong.append(f"all pages have {size} bytes, and may have {MOST_BYTES}")
-    print("\n".join(wrong) if wrong else f"{len(texts)} pages, {size} bytes")
+    print("\n".join(wrong) if wrong else f"{len(texts)} pages, {sum(len(text.encode()) for text in texts.values())} bytes")
     return 1 if wrong else 0
 
 

@@ -6,7 +6,8 @@
 
 A command is a line '    $ ..', with those that go on with it. All of a page run in one shell, one after another: of a guide in an empty folder
 with the checkout in `covretin`, of any other page in the checkout. Lines behind a command that begin with no '$' are printed by then, each
-whole, in their order. A command of tests/commands is tried elsewhere, and left out here. /tmp is a folder of the try's own, and cargo takes
+whole, in their order. A command of tests/commands is tried elsewhere, and left out here. A block of code that names a file, as
+'```c console.c', is written to it: the first of a page makes the file, the next go on with it. /tmp is a folder of the try's own, and cargo takes
 the crates that Debian packages. A command behind one in the background waits for the sockets that it names itself.
 
 It prints a line for each page, with its seconds, and last 'N passed, M failed'. Status 0 where all passed, 1 where one did not, 2 after wrong
@@ -30,6 +31,8 @@ TOP = os.path.dirname(os.path.dirname(os.path.realpath(__file__)))
 PLAYED = {
     "README.md": "test-release",
     "docs/guide/c.md": "test-release",
+    "docs/guide/device-c.md": "test-release",
+    "docs/guide/device-rust.md": "test-release",
     "docs/guide/rust.md": "test-release",
     "docs/guide/rattle.md": "scripts/try_daemon.py",
     "docs/DAEMON.md": "scripts/try_daemon.py",
@@ -68,10 +71,25 @@ class Command:
         return self.text.endswith("\\") or self.text.count("'") % 2 == 1
 
 
+# The first line of a block of code that names a file; and the line that ends its text.
+FILE = re.compile(r"```\w+ (\S+)$")
+END = "END_OF_BLOCK"
+
+
 def commands_of(text):
-    """The commands of a page, in its order."""
-    found, is_block = [], False
+    """The commands of a page, in its order, and what writes the files that it shows."""
+    found, is_block, is_file, files = [], False, False, set()
     for number, line in enumerate(text.split("\n"), 1):
+        begins = FILE.match(line)
+        if begins:
+            found.append(Command(number, f"cat {'>>' if begins[1] in files else '>'}{begins[1]} <<'{END}'"))
+            files.add(begins[1])
+            is_block, is_file = False, True
+            continue
+        if is_file:
+            is_file = line != "```"
+            found[-1].text += f"\n{line if is_file else END}"
+            continue
         line, is_code = line[4:], line.startswith("    ")
         if is_block and found[-1].goes_on() and (is_code or not line):
             found[-1].text += f"\n{line}"

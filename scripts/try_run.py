@@ -105,35 +105,37 @@ def torn_input(program):
             client.setsockopt(socket.SOL_SOCKET, socket.SO_LINGER, struct.pack("ii", 1, 0))
             client.close()
             same(ran.communicate(), (b"", b"input: Connection reset by peer (os error 104)\n"))
-            same(ran.returncode, 4)
+            same(ran.returncode, 2)
 
 
 def failing_outputs(program):
-    """A line that does not fit is status 4, and the reason is told; one that just fits is no failure."""
+    """A line that does not fit is status 2, and the reason is told; one that just fits is no failure."""
     same(into_file(program, b"get_features\n", len(FEATURES), "stdout"), (0, FEATURES, b""))
     too_large = b"output: File too large (os error 27)\n"
-    same(into_file(program, b"get_features\n", len(FEATURES) - 1, "stdout"), (4, FEATURES[:-1], too_large))
+    same(into_file(program, b"get_features\n", len(FEATURES) - 1, "stdout"), (2, FEATURES[:-1], too_large))
     with open("/dev/full", "wb") as full:
-        same(run(program, b"get_features\n", stdout=full), (4, None, b"output: No space left on device (os error 28)\n"))
+        no_space = b"output: No space left on device (os error 28)\n"
+        same(run(program, b"get_features\n", stdout=full), (2, None, no_space))
+        same(run(program, b"# one line\nget_features\n", "--comments", stdout=full), (4, None, no_space))
 
 
 def output_that_nobody_reads(program):
     reader, writer = os.pipe()
     os.close(reader)
     with open(writer, "wb") as pipe:
-        same(run(program, b"get_features\n", stdout=pipe, restore_signals=False), (4, None, b"output: Broken pipe (os error 32)\n"))
+        same(run(program, b"get_features\n", stdout=pipe, restore_signals=False), (2, None, b"output: Broken pipe (os error 32)\n"))
 
 
 def failing_errors(program):
-    """A bad line that can't be told is status 4, and not 1."""
-    told = b"line 1: bad call: word 1: no call has this name\n"
+    """A bad line that can't be told is status 2, and not 1."""
+    told = b"line 1: bad call\n"
     same(into_file(program, b"nonsense\n", len(told), "stderr"), (1, told, b""))
-    same(into_file(program, b"nonsense\n", len(told) - 1, "stderr"), (4, told[:-1], b""))
+    same(into_file(program, b"nonsense\n", len(told) - 1, "stderr"), (2, told[:-1], b""))
 
 
 def help_lists_the_calls(program):
     """A line that asks for help is no call, and is told which there are."""
-    status, output, errors = run(program, b"# which calls are there?\n\nhelp\n")
+    status, output, errors = run(program, b"# which calls are there?\n\nhelp\n", "--comments")
     begins = b"line 3: bad call: word 1: the calls are "
     same((status, output, errors[: len(begins)]), (1, b"", begins))
     listed = set(errors[len(begins) :].strip().split(b", "))

@@ -151,8 +151,8 @@ static void note_end(void *own, enum covretin_error error)
     lost += error == COVRETIN_MEMORY_LOST;
 }
 
-static covretin_device_calls calls = {.queues = QUEUES, .taken_queues = 1 << TAKEN, .busy_poll_us = 5, .request = take, .read_config = read_config,
-                                      .write_config = write_config, .refused = count_refused, .broken = count_broken, .ended = note_end};
+static covretin_device_calls calls = {.queues = QUEUES, .taken_queues = 1 << TAKEN, .busy_poll_us = 5, .calls_by_pipe = true, .request = take,
+                                      .read_config = read_config, .write_config = write_config, .refused = count_refused, .broken = count_broken, .ended = note_end};
 
 /* -- Descriptors that a frontend has -- */
 

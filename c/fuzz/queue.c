@@ -105,13 +105,84 @@ static void step(void)
     }
 }
 
+/* What a walk may take and give. */
+enum { MOST_COPIES = 5, MOST_PLACES = 8 };
+
+/* The next descriptors are read, and taken one by one by the model: why the last of them is refused. */
+static uint64_t model_walk(covretin_descriptor copies[MOST_COPIES], size_t given, covretin_segment *segments, size_t places,
+                           covretin_walked *walked)
+{
+    size_t read = 0;
+    uint64_t reasons = model_table(&walked->table);
+    for (walked->taken = walked->count = 0; reasons == 0 && walked->taken < given && walked->count < places;) {
+        covretin_range place = {0, 0};
+        covretin_descriptor *it = &copies[walked->taken];
+        bool found, was_in_ring = model.chain.in_ring;
+        if (read == walked->taken && model_descriptor_place(&place, &found) == 0 && found && place.len != 0)
+            *it = guest_has_descriptor(place, *it);
+        read = walked->taken + 1;
+        reasons = model_step(it, &segments[walked->count], &found);
+        if (reasons != 0)
+            break;
+        if (was_in_ring && !model.chain.in_ring && model.layout == PACKED)
+            held[held_count++] = it->third;
+        walked->count += found;
+        walked->taken += !model.chain.has_rest;
+    }
+    if (reasons == 0)
+        model_table(&walked->table);
+    return reasons;
+}
+
+/* The next descriptors are read, and taken by one call. */
+static void walk(void)
+{
+    static covretin_segment segments[MOST_PLACES + 1], expected[MOST_PLACES];
+    covretin_descriptor copies[MOST_COPIES];
+    covretin_walked walked;
+    size_t given = next_byte() % (MOST_COPIES + 1), places = next_byte() % (MOST_PLACES + 1);
+    for (size_t i = 0; i < given; i++)
+        copies[i] = next_descriptor();
+    memset(segments, BLANK, sizeof segments);
+    uint64_t reasons = model_walk(copies, given, expected, places, &walked);
+    bool did = DOES(WALK, covretin_queue_walk(&queue, copies, given, segments, places, &out.walked), reasons);
+    must(is_blank(segments + places, sizeof segments - places * sizeof *segments));
+    if (!did)
+        return;
+    must(out.walked.taken == walked.taken && out.walked.count == walked.count && is_table(&out.walked.table, &walked.table));
+    for (size_t i = 0; i < walked.count; i++) {
+        must(is_range(segments[i].range, expected[i].range) && segments[i].guest_addr == expected[i].guest_addr);
+        must(segments[i].writable == expected[i].writable);
+        device_touches(segments[i].range, segments[i].writable);
+    }
+}
+
+/* A head is given back: one that the device has, or any; or one is its own that it did not follow. */
+static void give_back(uint8_t how)
+{
+    uint16_t head = held_count != 0 && how % 4 != 0 ? held[held_count - 1 - how / 4 % held_count] : next_head();
+    if (DOES(GIVE_BACK, covretin_queue_give_back(&queue, head), model_give_back(head)))
+        forget(head);
+}
+
+static void adopt(void)
+{
+    uint16_t head = next_head();
+    if (DOES(ADOPT, covretin_queue_adopt(&queue, head), model_adopt(head)))
+        held[held_count++] = head;
+}
+
 /* A chain is followed to its end. It has one, after as many descriptors and borders of regions as there may be and one that names a table. */
 static void follow(void)
 {
     uint32_t left = model.chain.left + model.chain.splits + 2;
     while (model.chain.goes_on && !model.needs_reset && more_steps()) {
-        step();
-        must(left-- != 0);
+        if (next_byte() % 2)
+            walk(); /* (of no descriptors, it may be) */
+        else {
+            step();
+            must(left-- != 0);
+        }
     }
 }
 
@@ -174,8 +245,9 @@ static void any_step(void)
     case 5: which < 32 ? crash_packed() : which < 64 ? crash() : resubmit(); break;
     case 6: case 7: case 8: case 9: case 10: look(); break;
     case 11: case 12: case 13: case 14: case 15: which < 16 || model.layout == SPLIT ? pop() : look(), follow(); break;
-    case 16: case 17: case 18: step(); break;
-    case 19: case 20: case 21: case 22: case 23: follow(); break;
+    case 16: case 17: case 18: which < 128 ? walk() : step(); break;
+    case 19: case 20: case 21: case 22: follow(); break;
+    case 23: which < 64 ? adopt() : give_back(next_byte()); break;
     case 24: case 25: case 26: case 27: tell_of(); break;
     default: which = next_byte(), give(which, (uint16_t)next_number(), which % 2 * (uint32_t)next_number()); break;
     }

@@ -23,9 +23,15 @@ static bool is_done(uint64_t reasons)
     return error == 0;
 }
 
+bool is_table(const covretin_table *one, const covretin_table *other)
+{
+    return one->goes_on == other->goes_on && (!one->goes_on || (is_range(one->range, other->range) && one->next == other->next));
+}
+
 static void see_places(void)
 {
     covretin_range place;
+    covretin_table table;
     bool found;
     LOOK(covretin_queue_available_place(&queue, &out.place));
     must(!is_done(model_available_place(&place)) || is_range(out.place, place));
@@ -36,6 +42,8 @@ static void see_places(void)
     LOOK(covretin_queue_descriptor_place(&queue, &out.place, &out.is));
     if (is_done(model_descriptor_place(&place, &found)))
         must(out.is == found && (!found || is_range(out.place, place)));
+    LOOK(covretin_queue_table(&queue, &out.table));
+    must(!is_done(model_table(&table)) || is_table(&out.table, &table));
 }
 
 static void see_state(void)
@@ -116,6 +124,15 @@ bool start(const struct start *it)
     return has_started;
 }
 
+void forget(uint16_t id)
+{
+    size_t which = 0;
+    while (which < held_count && held[which] != id)
+        which++;
+    must(which < held_count);
+    held[which] = held[--held_count];
+}
+
 void give(size_t which, uint16_t id, uint32_t len)
 {
     covretin_used used;
@@ -129,8 +146,5 @@ void give(size_t which, uint16_t id, uint32_t len)
     must(is_range(out.used.then, used.then) && out.used.then_value == used.then_value);
     device_writes(used.elem, used.elem_value);
     device_writes(used.then, used.then_value);
-    for (which = 0; which < held_count && held[which] != id; which++)
-        ;
-    must(which < held_count);
-    held[which] = held[--held_count];
+    forget(id);
 }

@@ -16,6 +16,8 @@ extern struct out {
     covretin_segment segment;
     covretin_used used;
     covretin_event_write event;
+    covretin_table table;
+    covretin_walked walked;
     uint32_t base;
     uint16_t count;
     bool is;
@@ -65,11 +67,17 @@ enum {
     LOG,
     INDIRECT_STEP,
     CUT,
-    RECOVER_PACKED
+    RECOVER_PACKED,
+    WALK,
+    GIVE_BACK,
+    ADOPT
 };
 
 /* Whether it ended without a reason to be refused, and did something. */
 bool ends(uint32_t what, uint64_t reasons);
+
+/* Whether a table is one, where a chain goes on. */
+bool is_table(const covretin_table *one, const covretin_table *other);
 
 /* Looks at all that can be seen of the queue. */
 void see(void);
@@ -77,6 +85,9 @@ void see(void);
 /* The queue is started so: whether it has these rings. And the device is done with a chain of its own, or else with one that it has not. */
 bool start(const struct start *it);
 void give(size_t which, uint16_t id, uint32_t len);
+
+/* A chain of the device's is no more: that of this head or id. */
+void forget(uint16_t id);
 
 /* What needs no queue: an inflight region that says anything, and the dirty log; and a device that keeps an inflight region, and crashes. */
 void recover_any(void);

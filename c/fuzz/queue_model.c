@@ -259,6 +259,18 @@ uint64_t model_descriptor_place(covretin_range *place, bool *found)
     return WHY(NO_QUEUE, !model.is_open);
 }
 
+/* A chain that has ended is in the table that it was in last. */
+uint64_t model_table(covretin_table *table)
+{
+    bool goes_on = no_rings() == 0 && model.chain.goes_on;
+    *table = (covretin_table){.goes_on = goes_on};
+    if (goes_on) {
+        table->range = at(model.chain.table, 16 * (uint64_t)model.chain.entries);
+        table->next = (uint16_t)model.chain.next;
+    }
+    return WHY(NO_QUEUE, !model.is_open);
+}
+
 uint64_t model_notification_place(covretin_range *place)
 {
     if (model.layout == PACKED)
@@ -291,13 +303,12 @@ static uint64_t broken(uint64_t reasons)
     return reasons;
 }
 
-/* The chain goes on at a descriptor of a table, of which none came. */
+/* The chain goes on at a descriptor of a table. */
 static void enter(uint64_t table, uint32_t entries, uint32_t first)
 {
     model.chain.table = table;
     model.chain.entries = entries;
     model.chain.next = first;
-    model.chain.stamp++;
 }
 
 /* A chain begins. It has as many descriptors at most as the queue, and where tables may be indirect 1024 may come. */
@@ -360,6 +371,33 @@ uint64_t model_take_packed(void)
     return reasons;
 }
 
+/* A head of a split queue that was taken last, or is said to be, is available again; and one is the device's that is not followed. */
+uint64_t model_give_back(uint16_t head)
+{
+    uint64_t reasons = not_split();
+    uint16_t before = (uint16_t)(model.avail - 1);
+    if (reasons == 0)
+        reasons = WHY(NOT_HANDED_OUT, head >= model.size || model.out[head] == 0);
+    if (reasons == 0)
+        reasons = WHY(TOO_MANY_AVAILABLE, (uint16_t)(model.idx - before) > model.size);
+    if (reasons != 0)
+        return reasons;
+    model.out[head] = 0;
+    model.avail = before;
+    model.chain.goes_on = false;
+    return 0;
+}
+
+uint64_t model_adopt(uint16_t head)
+{
+    uint64_t reasons = not_split();
+    if (reasons == 0)
+        reasons = WHY(NOT_IN_TABLE, head >= model.size) | WHY(HEAD_IN_USE, head < model.size && model.out[head] != 0);
+    if (reasons == 0)
+        model.out[head] = 1;
+    return reasons;
+}
+
 static struct link link_of(const covretin_descriptor *it)
 {
     uint32_t behind = model.chain.next + 1;
@@ -384,8 +422,7 @@ static uint64_t refused_segment(const covretin_descriptor *it, const struct link
 {
     covretin_range range;
     bool is_there = link->next < model.chain.entries;
-    bool came = is_there && (link->next == model.chain.next || model.chain.came[link->next] == model.chain.stamp);
-    uint64_t reasons = WHY(NOT_IN_TABLE, !is_there) | WHY(DESCRIPTOR_LOOP, came) | WHY(CHAIN_TOO_LONG, model.chain.left == 1);
+    uint64_t reasons = WHY(NOT_IN_TABLE, !is_there) | WHY(CHAIN_TOO_LONG, model.chain.left == 1);
     uint64_t why = WHY(READABLE_AFTER_WRITABLE, model.chain.writing && !(link->flags & WRITE)) | WHY(EMPTY_DESCRIPTOR, it->len == 0);
     why |= translate_part(it->addr, it->len, &range);
     if (why == 0 && range.len < it->len)
@@ -419,7 +456,6 @@ static void give_segment(const covretin_descriptor *it, const struct link *link,
         model.chain.splits--;
         return;
     }
-    model.chain.came[model.chain.next] = model.chain.stamp;
     model.chain.left--;
     model.chain.goes_on = link->goes_on;
     model.chain.next = link->next;
@@ -437,6 +473,7 @@ uint64_t model_step(const covretin_descriptor *given, covretin_segment *segment,
     struct link link = has_rest ? model.chain.link : link_of(it);
     bool has_id = link.is_last && it->third < model.size;
     reasons = WHY(NOT_IN_TABLE, link.is_last && !has_id) | WHY(HEAD_IN_USE, has_id && model.out[it->third] != 0);
+    reasons |= WHY(CHAIN_TOO_LONG, !has_rest && model.chain.in_ring && model.chain.slots >= model.size); /* (round the ring) */
     reasons |= link.flags & INDIRECT ? refused_table(it, &link) : refused_segment(it, &link);
     if (reasons != 0)
         return broken(reasons);

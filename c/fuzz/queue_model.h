@@ -48,12 +48,12 @@ extern struct model {
     uint32_t asked_at;       /* and what was used then */
     uint32_t out[MOST_SIZE]; /* of how many descriptors in a ring the chain of a head, or of an id, is that the device has */
 
-    /* The chain that is followed: which descriptor of which table is next, how many may come, and which came; and what is left of one
-     * that goes on in another region, and how many times one may yet. */
+    /* The chain that is followed: which descriptor of which table is next, and how many may come; and what is left of one that goes on
+     * in another region, and how many times one may yet. */
     struct {
         bool goes_on, in_ring, writing, nests, has_rest;
         uint64_t table;
-        uint32_t entries, next, left, splits, slots, stamp, came[MOST_SIZE];
+        uint32_t entries, next, left, splits, slots;
         covretin_descriptor rest;
         struct link link;
     } chain;
@@ -82,6 +82,9 @@ uint64_t model_set_notification(bool enable, covretin_event_write *write);
 uint64_t model_available(uint16_t value, uint16_t *count);
 uint64_t model_take(uint16_t head, bool is_again);
 uint64_t model_take_packed(void);
+uint64_t model_give_back(uint16_t head);
+uint64_t model_adopt(uint16_t head);
+uint64_t model_table(covretin_table *table);
 uint64_t model_step(const covretin_descriptor *descriptor, covretin_segment *segment, bool *found);
 uint64_t model_add_used(uint16_t id, uint32_t len, covretin_used *used);
 uint64_t model_needs_notification(uint16_t value, uint16_t flags, bool *needed);

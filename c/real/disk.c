@@ -236,6 +236,8 @@ static void plug_out(size_t number)
     name_region(name, sizeof name, number);
     check(is_mapped(name), "the backend has the region mapped");
     done("remove_mem_region", covretin_ask_remove_mem_region(SESSION, &removed));
+    for (int looks = 0; is_mapped(name) && looks < 5000; looks++)
+        nanosleep(&(struct timespec){.tv_nsec = 1000000}, NULL); /* (a thread of the backend's unmaps it) */
     check(!is_mapped(name), "the backend has it mapped no more");
 }
 

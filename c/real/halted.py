@@ -99,6 +99,43 @@ def tried_cycles(program):
     end([disk], machine)
 
 
+RESETS = 10
+
+
+def post_writes(ring):
+    """Writes new blocks, as many as the ring has room for. Each, by its sector."""
+    wanted = {8 * (ring.index * Ring.REQUESTS + request): random.randbytes(PAGE) for request in range(Ring.REQUESTS)}
+    for request, (sector, data) in enumerate(wanted.items()):
+        ring.slot.put(ring.data(request), data)
+        ring.post(request, WRITES, sector, PAGE)
+    ring.kick()
+    return wanted
+
+
+def tried_reset(program):
+    """The machine is reset amid writes of a disk whose file is written slowly: QEMU asks for the base of each ring, and is told it once what
+    the disk has of that ring is written and given back."""
+    disk = Disk(program)
+    machine = machine_over("machine", disk)
+    slot = Slot(machine, 5)
+    amid = 0
+    for _ in range(RESETS):
+        rings = begin(slot)
+        wanted = [post_writes(ring) for ring in rings]
+        wait_until(disk.is_writing, "the disk writes")
+        amid += any(ring.used() < Ring.REQUESTS for ring in rings)
+        machine.reset()
+        check(not disk.is_writing(), "the disk writes no more")
+        for ring, blocks in zip(rings, wanted):
+            given = sum(in_image(sector, PAGE) == data for sector, data in blocks.items())
+            check(given == ring.used(), "what is in the image was given back")
+    tell(f"{amid} of {RESETS} resets came amid writes")
+    check(amid != 0, "a reset came amid writes")
+    for ring in begin(slot):
+        use(ring, 8 * ring.index)
+    end([disk], machine)
+
+
 def tried_killed(program):
     """The disk, whose file is written slowly, is killed amid writes, and started again: all that was posted is given back, once."""
     disk = Disk(program)

@@ -3,7 +3,8 @@
 
     machine.py TRY DISK BOOT [ANY [FRAMES]]    in an empty folder: DISK is the compiled c/blk.c, BOOT the sector of boot.S, ANY the compiled
                                                any.c; for display DISK is the compiled picture.c, for entropy ANY the compiled c/rng.c; for
-                                               frames ANY is the compiled c/net.c, and FRAMES the compiled frames.c
+                                               frames ANY is the compiled c/net.c, and FRAMES the compiled frames.c; for ping ANY is the
+                                               program covretin-net
 
 Prints what is done. Status 0 where all was as it has to be; 1 where something was not, which the last line says. What runs is ended
 by then. The machines' consoles and the disks' lines are kept in the folder.
@@ -429,6 +430,37 @@ def tried_frames(program):
         found = re.fullmatch(r"a frontend went: peer disconnected; (\d+) frames were sent back, and (\d+) dropped\n", it.read())
     check(found and int(found[1]) >= 1024, "the card sent them back")
     tell(f"{found[1]} frames were sent back, {found[2]} dropped")
+
+
+def machine_with_card(program, name, far, number):
+    """A machine, its disk, and its card, whose other end is the card of the machine that is named."""
+    disk = Disk(program, name)
+    path = f"{name}-card-{os.getpid()}.socket"
+    with open(f"{name}.card", "wb") as log:
+        card = run([ANY, f"--socket-path={path}", f"--local={name}.wire", f"--remote={far}.wire"], log)
+    wait_until(lambda: os.path.exists(path), "the card listens", 10)
+    machine = boot(name, disk, "-chardev", f"socket,id=net,path={path}", *DEVICES["net"][0])
+    machine.do("for it in failover net_failover virtio_net; do insmod /modules/$it.ko || exit 1; done")
+    machine.do(f"ip link set eth0 address 52:54:00:00:00:0{number} up && ip addr add 10.0.0.{number}/24 dev eth0")
+    return machine, disk, card
+
+
+def tried_ping(program):
+    """Two machines over two cards, each the other end of the other: each answers pings, and a mebibyte goes over TCP."""
+    there = [machine_with_card(program, *it) for it in (("one", "two", 1), ("two", "one", 2))]
+    machines = [it[0] for it in there]
+    for machine, number in zip(machines, (2, 1)):
+        found = machine.do(f"ping -c 5 -W 60 10.0.0.{number}; ping -c 5 -W 60 -s 1400 10.0.0.{number}")
+        check(found.count("5 packets received, 0% packet loss") == 2, "each ping is answered")
+    sent = machines[1].do("head -c 1048576 /dev/urandom >/tmp/sent; httpd -h /tmp; sha256sum </tmp/sent")
+    check(machines[0].do("wget -q -O - http://10.0.0.2/sent | sha256sum") == sent, "what was sent came")
+    for machine, disk, card in there:
+        machine.power_off()
+        disk.end()
+        card.terminate()
+        wait_for_end(card, "the card")
+    with open("one.card", encoding="utf-8") as it:
+        tell(it.read().strip())
 
 
 def tried_resized(program):

@@ -1,7 +1,7 @@
 # SPDX-License-Identifier: Apache-2.0
-"""User Mode Linux over the example disk: Linux is a process, which is the frontend and drives the virtqueues.
+"""User Mode Linux over the example disk, and over the console: Linux is a process, which is the frontend and drives the virtqueues.
 
-    uml.py TRY DISK    in an empty folder: DISK is the compiled c/blk.c
+    uml.py TRY DEVICE    in an empty folder: DEVICE is the compiled c/blk.c, or for console the program covretin-console
 
 Prints what is done. Status 0 where all was as it has to be; 1 where something was not, which the last line says; 4 where User Mode
 Linux cannot run here. What runs is ended by then. The consoles and the disk's lines are kept in the folder.
@@ -13,11 +13,11 @@ import shutil
 import socket
 import sys
 
-from emulator import DOES_LINES, Disk, Shell, Stream, check, patience, play, run, tell, wait_until
+from emulator import DOES_LINES, Disk, Shell, Stream, check, patience, play, run, tell, wait_for_end, wait_until
 
 SECTOR = 512
 MEGABYTE = 1 << 20
-BLOCK = 2  # the type of a disk
+BLOCK, CONSOLE = 2, 3  # types of devices
 
 INIT = """#!/bin/busybox sh
 /bin/busybox --install -s /bin
@@ -99,7 +99,7 @@ def tried_boot(program):
     wanted = random.randbytes(2 * MEGABYTE)
     with open("system/data", "wb") as it:
         it.write(wanted)
-    disk = Disk(program)
+    disk = Disk(program, rings=("2", "pipe"))
     wait_until(disk.is_asleep, "the disk waits")
     open_then = disk.descriptors()
     linux = Linux("first", (disk.path, BLOCK))
@@ -123,10 +123,44 @@ def tried_boot(program):
     disk.end()
 
 
+def shell_at(console, linux):
+    """A shell at Linux's console, which does lines."""
+    linux.do("modprobe virtio_console; while [ ! -c /dev/hvc0 ]; do sleep 0.1; done; setsid sh /lines </dev/hvc0 >/dev/hvc0 2>&1 &")
+    told = Shell("console", console)
+    told.hear(rb"#ready\r?\n")
+    return told
+
+
+def tried_console(program):
+    """Who is at the console's socket tells a shell what to do: what it prints comes whole and in order. Another Linux has the same console, and the
+    same is at its other end."""
+    if not runs_here():
+        raise SystemExit(4)
+    with open("system/lines", "w", encoding="ascii") as it:
+        it.write(DOES_LINES)
+    with open("device.log", "wb") as log:
+        device = run([program, "--calls-by-pipe", "--socket-path=device", "--console=end"], log)
+    wait_until(lambda: os.path.exists("device"), "the console listens", 10)
+    with socket.socket(socket.AF_UNIX) as end:
+        end.connect("end")
+        for name in ("first", "second"):
+            linux = Linux(name, ("device", CONSOLE))
+            told = shell_at(Stream(end), linux)
+            # (Linux spins until each sixteen bytes are taken: more takes long where processors are few)
+            check(told.do("seq 300").split() == [str(number) for number in range(1, 301)], "what is printed comes")
+            text = random.randbytes(200).hex()
+            check(told.do(f"echo -n {text} | sha256sum").split()[0] == sum_of(text.encode()), "what is typed does")
+            linux.power_off()
+    device.terminate()
+    wait_for_end(device, "the console")
+    with open("device.log", encoding="utf-8") as it:
+        check(it.read().count("and 0 dropped\n") == 2, "nothing was dropped")
+
+
 def main():
     tries = {name.removeprefix("tried_"): it for name, it in globals().items() if name.startswith("tried_")}
     if len(sys.argv) != 3 or sys.argv[1] not in tries:
-        raise SystemExit(f"usage: uml.py {'|'.join(tries)} DISK")
+        raise SystemExit(f"usage: uml.py {'|'.join(tries)} DEVICE")
     make_system()
     try:
         play(tries[sys.argv[1]], sys.argv[2])

@@ -182,8 +182,7 @@ def same_as_in_memory(room, program, daemon, run):
                 time.sleep(0.05)
             got = ask(program, path, LINES, f"--profile={profile}")
             same(serving.wait(), 0)
-        lines = "".join(f"{it}\n" for it in LINES.splitlines() if it and it[0] != "#")
-        wanted = subprocess.run([run, f"--profile={profile}"], input=lines.encode(), capture_output=True, check=True).stdout.decode()
+        wanted = subprocess.run([run, "--comments", f"--profile={profile}"], input=LINES.encode(), capture_output=True, check=True).stdout.decode()
         same(got, (0, wanted, ""))
         assert wanted.count("\n") == 24, wanted
 
@@ -243,7 +242,7 @@ def lines_that_are_no_call(room, program, *_):
         same((status, answers_of(output), errors), (1, ["ok 0x40000001"], f"line 3: bad call: {why}\n"))
         same(peer.asked, [(1, 0)])
     status, _, errors, _ = asked(room, program, "help\n")
-    same((status, errors.startswith("line 1: bad call: word 1: the calls are get_features, "), errors.count(", ")), (1, True, 36))
+    same((status, errors.startswith("line 1: bad call: word 1: the calls are get_features, "), errors.count(", ")), (1, True, 37))
     status, _, errors, _ = asked(room, program, b"set_owner\0\n")
     same((status, errors), (1, "line 1: bad call: word 1: a byte of 0: set_owner\n"))
 

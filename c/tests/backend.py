@@ -36,6 +36,11 @@ NAMES = {
 }
 
 
+def text_at(fd, offset):
+    """The text at the beginning of a region."""
+    return os.pread(fd, 64, offset).rstrip(b"\0").decode()
+
+
 def receive(sock):
     """A request: its code, its flags, its body and its descriptors. None at the end."""
     head, fds, _, _ = socket.recv_fds(sock, HEADER.size, 32)
@@ -95,7 +100,7 @@ class Backend:
         if code == 5:
             for i, fd in enumerate(fds):
                 guest, size, user, offset = struct.unpack_from("<QQQQ", body, 8 + 32 * i)
-                print(f"  region {guest:#x} {size:#x} {user:#x}: {os.pread(fd, 64, offset).decode()}")
+                print(f"  region {guest:#x} {size:#x} {user:#x}: {text_at(fd, offset)}")
         elif code == 8:
             return int(struct.unpack("<II", body)[1] == 0)
         elif code == 10:
@@ -108,13 +113,13 @@ class Backend:
         elif code == 25:
             self.config = body[12:]
         elif code == 32:
-            print(f"  in flight: {os.pread(fds[0], 64, struct.unpack_from('<Q', body, 8)[0]).decode()}")
+            print(f"  in flight: {text_at(fds[0], struct.unpack_from('<Q', body, 8)[0])}")
         return 0
 
     def ring(self):
         """Follows a kick by a call."""
-        if os.read(self.kick, 1) == b"k":
-            os.write(self.call, b"c")
+        if os.read(self.kick, 8) == struct.pack("<Q", 1):
+            os.write(self.call, struct.pack("<Q", 1))
 
 
 def main():
@@ -136,7 +141,7 @@ def main():
         for fd in (*fds, *(given or ())):
             os.close(fd)
         acknowledges |= code == 16 and bool(body[0] & 1 << 3)
-        if code == 13:
+        if code == 18 and backend.kick is not None:
             backend.ring()
 
 

@@ -43,11 +43,16 @@ static int cause;              /* with this errno */
 static int lie = -1;           /* what the session names in place of a reply's descriptor */
 static size_t told;            /* how many descriptors the session was told of */
 
-/* Whether this call is not to reach the system. */
+static bool is_of_device(int fd)
+{
+    return runs_tests() && fd == covretin_connection_fd(&device);
+}
+
+/* Whether this call is not to reach the system. One of a connection that is not open yet may be. */
 static bool stopped(int fd)
 {
     static bool even;
-    if (fd != covretin_connection_fd(&device) && device.opaque != NULL)
+    if (!runs_tests() || (!is_of_device(fd) && device.opaque != NULL))
         return false;
     if (until_failure >= 0 && until_failure-- == 0) {
         errno = cause;
@@ -66,7 +71,7 @@ ssize_t __wrap_sendmsg(int fd, const struct msghdr *message, int flags)
     struct iovec piece = message->msg_iov[0];
     if (stopped(fd))
         return -1;
-    if (shortens && fd == covretin_connection_fd(&device)) {
+    if (shortens && is_of_device(fd)) {
         piece.iov_len = 1;
         some.msg_iov = &piece;
     }
@@ -77,7 +82,7 @@ ssize_t __wrap_recvmsg(int fd, struct msghdr *message, int flags)
 {
     if (stopped(fd))
         return -1;
-    if (shortens && fd == covretin_connection_fd(&device))
+    if (shortens && is_of_device(fd))
         message->msg_iov[0].iov_len = 1;
     return __real_recvmsg(fd, message, flags);
 }

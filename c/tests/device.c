@@ -213,6 +213,23 @@ static void *run_device(void *none)
     return none;
 }
 
+static covretin_listener there;
+
+static void *run_listener(void *none)
+{
+    ran = covretin_device_run_listener(&calls, &its, &there);
+    return none;
+}
+
+static const covretin_device_calls *run_calls = &calls;
+static int run_end; /* a socket that is connected */
+
+static void *run_fd(void *none)
+{
+    ran = covretin_device_run_fd(run_calls, &its, run_end);
+    return none;
+}
+
 static void begin(const covretin_device_calls *table)
 {
     int ends[2];
@@ -979,8 +996,10 @@ static void gives_no_zeros_for_a_page_of_who_went(void)
 /* A call that is full, and would block whoever writes it; a pipe, and a socket, and each once nobody reads it. */
 static void never_waits_for_a_call(void)
 {
+    covretin_device_calls by_pipe = calls;
     int ends[2];
-    begin(&calls);
+    by_pipe.calls_by_pipe = true;
+    begin(&by_pipe);
     negotiate(0);
     make_memory();
     give_memory();
@@ -1286,6 +1305,48 @@ static void give_two_regions(void)
     memcpy(memory + BUFFERS - 3, "border", 6);
 }
 
+/* A table of so many descriptors, a byte each, of which the last third is to be written. */
+static void put_table(struct descriptor *table, uint16_t count, bool is_packed)
+{
+    for (uint16_t i = 0; i < count; i++) {
+        uint16_t flags = (uint16_t)((i < count / 3 * 2 ? 0 : WRITE) | (i + 1 < count ? NEXT : 0));
+        memory[BUFFERS + i] = 'm';
+        table[i] = (struct descriptor){GUEST + BUFFERS + i, 1, is_packed ? 0 : flags, is_packed ? flags : (uint16_t)(i + 1)};
+    }
+}
+
+/* A chain is followed by parts, where it has more descriptors than are copied at once: in a ring of either layout. */
+static void a_request_of_many_descriptors(void)
+{
+    enum { COUNT = 150 };
+    for (int is_packed = 0; is_packed < 2; is_packed++) {
+        begin(&calls);
+        negotiate(COVRETIN_DEVICE_INDIRECT_DESC | (is_packed ? COVRETIN_DEVICE_RING_PACKED : 0));
+        make_memory();
+        give_memory();
+        struct queue queue = make_queue(0);
+        start(&queue, 0);
+        its.keeps = true;
+        put_table((struct descriptor *)(void *)(memory + 0x70000), COUNT, is_packed);
+        if (is_packed) {
+            put(&queue, 0, GUEST + 0x70000, COUNT * sizeof(struct descriptor), 3, 0x8000 | INDIRECT); /* (its base is 0, so the wrap counter, too) */
+            EXPECT(0, eventfd_write(queue.kick, 1));
+        } else {
+            put(&queue, 0, GUEST + 0x70000, COUNT * sizeof(struct descriptor), INDIRECT, 0);
+            post(&queue, 0);
+        }
+        wait_for(&its.kept_count, 1);
+        EXPECT(true, its.kept[0]->readable == COUNT / 3 * 2 && its.kept[0]->writable == COUNT / 3);
+        answer(its.kept[0]);
+        EXPECT(true, is_signalled(queue.call, LIMIT));
+        for (size_t i = COUNT / 3 * 2; i < COUNT; i++)
+            EXPECT('M', memory[BUFFERS + i]);
+        end();
+        free_queue(&queue);
+        free_memory();
+    }
+}
+
 /* A buffer that lies in two regions is two segments. */
 static void a_request_in_two_regions(void)
 {
@@ -1417,6 +1478,44 @@ static void logs_what_it_writes(void)
     free_memory();
 }
 
+/* Of a request with far more room than the device says that it wrote, three bytes: these are logged, a mebibyte behind them, and the last. The
+ * room begins amid a byte of the log, and the log amid a word. */
+static void logs_both_ends_of_a_large_request(void)
+{
+    enum { ROOM = 0x1000000, ENDS = 0x100000, OFFSET = 3, LOG = 0x8000 };
+    const uint64_t guest = GUEST + 2 * ROOM, from = guest + OFFSET * 4096 + 100, first = from / 4096, last = (from + 3 + ENDS - 1) / 4096;
+    covretin_region log = {.memory_size = LOG, .mmap_offset = 12, .fd = memfd_create("log", MFD_CLOEXEC)};
+    size_t wrong = 0;
+    begin(&calls);
+    negotiate(COVRETIN_FEATURE_LOG_ALL);
+    make_memory();
+    covretin_region regions[] = {region_of(0, SIZE), {guest, ROOM, (uint64_t)1 << 40, 0, memfd_create("room", MFD_CLOEXEC)}};
+    if (log.fd < 0 || regions[1].fd < 0 || ftruncate(log.fd, LOG + 12) || ftruncate(regions[1].fd, ROOM))
+        give_up("memfd_create");
+    DONE(covretin_ask_set_mem_table(&vmm.session, regions, 2));
+    struct queue queue = make_queue(0);
+    uint8_t *bits = mmap(NULL, LOG + 12, PROT_READ | PROT_WRITE, MAP_SHARED, log.fd, 0);
+    DONE(covretin_ask_set_log_base(&vmm.session, 0, &log));
+    start(&queue, 0);
+    write_request(&queue, 0, "abc");
+    put(&queue, 1, GUEST + BUFFERS + 2, 1, NEXT, 2);
+    put(&queue, 2, from, ROOM - OFFSET * 4096 - 100, WRITE, 0);
+    post(&queue, 0);
+    expect_used(&queue, 0, 3);
+    EXPECT(1, number(covretin_ask_get_vring_base(&vmm.session, 0)));
+    for (uint64_t page = 0; page < LOG * 8; page++) {
+        bool is_set = bits[12 + page / 8] >> page % 8 & 1;
+        wrong += is_set != ((page >= first && page <= last) || (page >= (guest + ROOM - ENDS) / 4096 && page < (guest + ROOM) / 4096));
+    }
+    EXPECT(0, wrong);
+    end();
+    munmap(bits, LOG + 12);
+    close(log.fd);
+    close(regions[1].fd);
+    free_queue(&queue);
+    free_memory();
+}
+
 /* What is no memory file is not mapped; what is no eventfd is no kick. */
 static void refuses_other_files(void)
 {
@@ -1483,7 +1582,6 @@ static void tells_of_a_changed_configuration(void)
     DONE(covretin_ask_set_backend_request_fd(&vmm.session, ends[1]));
     close(ends[1]);
     EXPECT(COVRETIN_OK, covretin_channel_serve_fd(&channel, ends[0]));
-    EXPECT(COVRETIN_OK, covretin_channel_server_set_reply_ack(&channel.server, true));
     EXPECT(COVRETIN_TIMED_OUT, covretin_channel_next_call(&channel, &call, 500));
     for (uint64_t refusal = 0; refusal < 2; refusal++) {
         its.has_changed = true;
@@ -1762,10 +1860,13 @@ static void bears_anything_in_a_packed_queue(void)
 static void refuses_tables(void)
 {
     covretin_device_calls none = {.queues = 1}, many = {.queues = COVRETIN_DEVICE_MAX_QUEUES + 1, .request = on_request};
+    covretin_device_calls later = {.queues = 1, .request = on_request, .later = {0, 1}};
     covretin_listener listener = {0};
     int file = memfd_create("none", MFD_CLOEXEC);
     EXPECT(COVRETIN_INVALID_PARAM, covretin_device_open_fd(&device, &none, NULL, file));
     EXPECT(COVRETIN_INVALID_PARAM, covretin_device_open_fd(&device, &many, NULL, file));
+    EXPECT(COVRETIN_INVALID_PARAM, covretin_device_open_fd(&device, &later, NULL, file));
+    EXPECT(COVRETIN_INVALID_PARAM, covretin_device_run(&none, NULL, "")); /* before its path is looked at */
     EXPECT(COVRETIN_INVALID_SOCKET_FD, covretin_device_open_fd(&device, &calls, NULL, file));
     EXPECT(COVRETIN_NO_SESSION, covretin_device_open(&device, &calls, NULL, &listener));
     EXPECT(COVRETIN_OK, covretin_listen(&listener, "device.socket"));
@@ -1777,13 +1878,28 @@ static void refuses_tables(void)
     close(file);
 }
 
+/* What no reply refuses ends the session, and the device is told what was refused. So the base of a ring that it has is never refused, however
+ * far that is set up: QEMU ends itself where it is. */
+static void ends_by_what_no_reply_refuses(void)
+{
+    begin(&calls);
+    negotiate(0);
+    for (size_t ring = 0; ring < calls.queues; ring++)
+        for (int time = 0; time < 2; time++) {
+            DONE(covretin_ask_get_vring_base(&vmm.session, ring));
+            DONE(covretin_ask_set_vring_num(&vmm.session, ring, QUEUE_SIZE));
+        }
+    EXPECT(COVRETIN_DISCONNECTED, outcome(covretin_ask_get_vring_base(&vmm.session, 7))); /* the device has no such ring */
+    end_as(COVRETIN_BACKEND_INTERNAL_ERROR);
+}
+
 /* It serves one frontend after another, hangs up on one that comes meanwhile, and ends at a signal. */
-static void runs_until_a_signal(void)
+static void run_until_a_signal(void *(*how)(void *))
 {
     covretin_connection other = {0};
     its.ended = its.served = its.turned_away = 0;
     its.keeps = false;
-    if (pthread_create(&loop_thread, NULL, run_device, NULL))
+    if (pthread_create(&loop_thread, NULL, how, NULL))
         give_up("pthread_create");
     for (int round = 0; round < 2; round++) {
         while (covretin_connect(&vmm, "device.socket", 8, LIMIT) == COVRETIN_SOCKET_CONNECT)
@@ -1810,7 +1926,104 @@ static void runs_until_a_signal(void)
     pthread_kill(loop_thread, SIGTERM);
     pthread_join(loop_thread, NULL);
     EXPECT(COVRETIN_OK, ran);
+}
+
+static void runs_until_a_signal(void)
+{
+    run_until_a_signal(run_device);
     EXPECT(-1, access("device.socket", F_OK));
+}
+
+static void runs_with_a_listener_that_is_there(void)
+{
+    EXPECT(COVRETIN_NO_SESSION, covretin_device_run_listener(&calls, &its, &there));
+    EXPECT(COVRETIN_OK, covretin_listen(&there, "device.socket"));
+    run_until_a_signal(run_listener);
+    EXPECT(0, access("device.socket", F_OK));
+    covretin_unlisten(&there);
+}
+
+/* A device that runs in a thread, over a socket that is connected. */
+static void begin_run(const covretin_device_calls *table)
+{
+    int ends[2];
+    if (socketpair(AF_UNIX, SOCK_STREAM | SOCK_CLOEXEC, 0, ends))
+        give_up("socketpair");
+    its.ended = its.served = 0;
+    its.keeps = false;
+    run_calls = table;
+    run_end = ends[0];
+    EXPECT(COVRETIN_OK, covretin_connect_fd(&vmm, ends[1], 8));
+    if (pthread_create(&loop_thread, NULL, run_fd, NULL))
+        give_up("pthread_create");
+    negotiate(0);
+}
+
+static void runs_with_one_frontend(void)
+{
+    begin_run(&calls);
+    covretin_disconnect(&vmm);
+    pthread_join(loop_thread, NULL);
+    EXPECT(COVRETIN_DISCONNECTED, ran);
+    EXPECT(1, its.ended);
+    begin_run(&calls);
+    pthread_kill(loop_thread, SIGINT);
+    pthread_join(loop_thread, NULL);
+    EXPECT(COVRETIN_OK, ran);
+    EXPECT(COVRETIN_OK, covretin_ask_get_features(&vmm.session));
+    EXPECT(COVRETIN_DISCONNECTED, covretin_exchange(&vmm, LIMIT));
+    covretin_disconnect(&vmm);
+    EXPECT(COVRETIN_INVALID_SOCKET_FD, covretin_device_run_fd(&calls, &its, -1));
+}
+
+static int asked_for_input;
+
+/* Three bytes at a time go into a buffer of the first queue's. */
+static bool on_input(void *own, covretin_device *it)
+{
+    covretin_request *buffer = covretin_device_take(it, 0);
+    char text[3];
+    (void)own;
+    asked_for_input++;
+    if (buffer == NULL)
+        return false;
+    EXPECT(3, read(run_calls->input, text, sizeof text));
+    covretin_request_done(buffer, (uint32_t)covretin_request_write(buffer, text, sizeof text));
+    return true;
+}
+
+/* Input that waits for a buffer is asked for again once the guest has kicked, and not all the while. */
+static void takes_input(void)
+{
+    covretin_device_calls taking = calls;
+    int ends[2];
+    EXPECT(0, pipe(ends));
+    taking.taken_queues = 1;
+    taking.input = ends[0];
+    taking.input_ready = on_input;
+    asked_for_input = 0;
+    begin_run(&taking);
+    make_memory();
+    give_memory();
+    struct queue queue = make_queue(0);
+    start(&queue, 0);
+    write_request(&queue, 0, "room");
+    post(&queue, 0);
+    EXPECT(6, write(ends[1], "onetwo", 6));
+    expect_used(&queue, 0, 3);
+    expect_text(&queue, 0, "one");
+    usleep(50000);
+    EXPECT(true, asked_for_input < 20);
+    post(&queue, 0);
+    expect_used(&queue, 0, 3);
+    expect_text(&queue, 0, "two");
+    covretin_disconnect(&vmm);
+    pthread_join(loop_thread, NULL);
+    EXPECT(COVRETIN_DISCONNECTED, ran);
+    close(ends[0]);
+    close(ends[1]);
+    free_queue(&queue);
+    free_memory();
 }
 
 static void hand_on(int number)
@@ -1848,10 +2061,12 @@ int main(void)
     RUN(goes_on_in_a_packed_ring);
     RUN(a_packed_ring_moves);
     RUN(regions_come_and_go);
+    RUN(a_request_of_many_descriptors);
     RUN(a_request_in_two_regions);
     RUN(a_packed_request_in_two_regions);
     RUN(a_packed_queue_keeps_what_it_has);
     RUN(logs_what_it_writes);
+    RUN(logs_both_ends_of_a_large_request);
     RUN(refuses_other_files);
     RUN(has_a_configuration);
     RUN(tells_of_a_changed_configuration);
@@ -1863,6 +2078,10 @@ int main(void)
     RUN(bears_anything_in_a_split_queue);
     RUN(bears_anything_in_a_packed_queue);
     RUN(refuses_tables);
+    RUN(ends_by_what_no_reply_refuses);
     RUN(runs_until_a_signal);
+    RUN(runs_with_a_listener_that_is_there);
+    RUN(runs_with_one_frontend);
+    RUN(takes_input);
     return status();
 }

@@ -33,6 +33,7 @@ USER = 0x7F0000000000  # where the frontend has the guest's memory
 SIZE = 16
 AVAILABLE, USED, REQUEST, STATUS, DATA = 0x4000, 0x8000, 0x9000, 0x9100, 0x10000
 NEXT, WRITE = 1, 2
+READ, WRITTEN = 0, 1  # kinds of requests
 FULL = 2**64 - 2
 
 # Whoever waits for the disk gives up once it has slept in so many looks, a millisecond each, or has used so many seconds of a processor:
@@ -58,7 +59,7 @@ class Disk:
         self.had = self.has()
 
     def start(self):
-        words = [self.program, self.path, self.image]
+        words = [self.program, self.path, self.image, "1", "pipe"]  # (a call may be a stream: more is to be attacked)
         self.process = subprocess.Popen(words, stdout=self.said, stderr=self.said)
         self.wait_until(self.listens, "the disk listens")
 
@@ -215,14 +216,17 @@ class Guest:
     def describe(self, at, *descriptor):
         struct.pack_into("<QIHH", self.memory, 16 * at, *descriptor)
 
-    def offer(self, sector, is_written=False):
-        """Offers to read a sector, or to write it, and kicks."""
-        struct.pack_into("<IIQ", self.memory, REQUEST, is_written, 0, sector)
+    def offer(self, sector, kind=READ):
+        """Offers to read a sector, or another kind of request, and kicks."""
+        struct.pack_into("<IIQ", self.memory, REQUEST, kind, 0, sector)
         self.memory[STATUS] = 0xFF
         self.describe(0, REQUEST, 16, NEXT, 1)
-        self.describe(1, DATA, SECTOR, NEXT if is_written else NEXT | WRITE, 2)
+        self.describe(1, DATA, SECTOR, NEXT if kind == WRITTEN else NEXT | WRITE, 2)
         self.describe(2, STATUS, 1, WRITE, 0)
-        struct.pack_into("<H", self.memory, AVAILABLE + 4 + 2 * (self.offered % SIZE), 0)
+        self.offers_head(0)
+
+    def offers_head(self, head):
+        struct.pack_into("<H", self.memory, AVAILABLE + 4 + 2 * (self.offered % SIZE), head)
         self.offered += 1
         struct.pack_into("<H", self.memory, AVAILABLE + 2, self.offered)
         os.eventfd_write(self.kick, 1)
@@ -495,7 +499,7 @@ def waiting_for_data(disk):
     guest = Guest(disk, listens=True)
     guest.memory[AVAILABLE] = guest.memory[USED] = guest.memory[REQUEST] = guest.memory[0] = 0
     check(guest.start(), "the ring starts")
-    guest.offer(4, is_written=True)
+    guest.offer(4, WRITTEN)
     disk.wait_until(lambda: select.select(guest.frontend.fds, [], [], 0)[0], "the disk waits for a page")
     return guest
 

@@ -45,7 +45,7 @@ static int until_no_memory = -1;
 
 static bool is_of_screen(int fd)
 {
-    return fd >= 0 && fd == covretin_display_connection_fd(&screen);
+    return fd >= 0 && runs_tests() && fd == covretin_display_connection_fd(&screen);
 }
 
 /* Whether this call is not to reach the system. */

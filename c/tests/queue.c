@@ -58,10 +58,60 @@ static covretin_queue opened(void)
     return queue;
 }
 
-/* Follows the chain to its end, or to a refusal: how many segments came. */
-static enum covretin_queue_error follow(covretin_queue *queue, covretin_segment *segments, size_t *count)
+/* How a chain is followed: by calls that take so many copies at most, and have so many places for segments; or, where it is 0, by steps. */
+enum { MOST_COPIES = 64 };
+static size_t copies_at_once, places_at_once;
+
+/* Copies the descriptors from where the chain goes on, as the head of covretin_queue.h says it. */
+static size_t copy(const covretin_table *table, bool is_packed, bool in_table, covretin_descriptor *copies)
+{
+    const size_t entries = table->range.len / sizeof *copies;
+    size_t count = 0, at = table->next;
+    while (count < copies_at_once && at < entries) {
+        covretin_range place = {table->range.addr + at * sizeof *copies, sizeof *copies};
+        get(place, &copies[count]);
+        uint16_t flags = is_packed ? copies[count].fourth : copies[count].third;
+        if (is_packed && in_table)
+            at++;
+        else if ((flags & 5) != 1)
+            at = entries;
+        else
+            at = !is_packed ? copies[count].fourth : at + 1 < entries ? at + 1 : 0;
+        count++;
+    }
+    return count;
+}
+
+/* Follows the chain by copies of its descriptors, to its end, or to a refusal. */
+static enum covretin_queue_error walk(covretin_queue *queue, covretin_segment *segments, size_t room, size_t *count)
+{
+    covretin_descriptor copies[MOST_COPIES];
+    covretin_walked walked;
+    covretin_range place;
+    const bool is_packed = covretin_queue_head_place(queue, &place) == COVRETIN_QUEUE_OTHER_LAYOUT;
+    bool in_table = false;
+    enum covretin_queue_error error = covretin_queue_table(queue, &walked.table);
+    while (error == 0 && walked.table.goes_on) {
+        size_t given = copy(&walked.table, is_packed, in_table, copies);
+        for (size_t at = 0; at < given; at += walked.taken) {
+            size_t places = room - *count < places_at_once ? room - *count : places_at_once;
+            error = covretin_queue_walk(queue, copies + at, given - at, segments + *count, places, &walked);
+            if (error != 0)
+                return error;
+            HOLDS(walked.taken == given - at || (walked.taken < given - at && walked.count == places && places != 0));
+            *count += walked.count;
+        }
+        in_table = in_table || ((is_packed ? copies[given - 1].fourth : copies[given - 1].third) & 4);
+    }
+    return error;
+}
+
+/* Follows the chain to its end, or to a refusal: how many segments came. A walk that is refused does not tell of those before. */
+static enum covretin_queue_error follow(covretin_queue *queue, covretin_segment *segments, size_t room, size_t *count)
 {
     *count = 0;
+    if (copies_at_once != 0)
+        return walk(queue, segments, room, count);
     for (;;) {
         covretin_range place;
         covretin_descriptor descriptor = {0};
@@ -76,6 +126,8 @@ static enum covretin_queue_error follow(covretin_queue *queue, covretin_segment 
         *count += found;
     }
 }
+
+#define FOLLOW(queue, segments, count) follow(queue, segments, sizeof(segments) / sizeof *(segments), count)
 
 /* The rings of a queue of four: descriptors at 0, the available ring at 0x100, the used ring at 0x200. */
 static covretin_split_ring split_ring(void)
@@ -110,7 +162,7 @@ static void split_queue(void)
     HOLDS(covretin_queue_available(&queue, get16(place), &count) == 0 && count == 1);
     HOLDS(covretin_queue_head_place(&queue, &place) == 0);
     HOLDS(covretin_queue_pop(&queue, get16(place)) == 0);
-    HOLDS(follow(&queue, segments, &n) == 0 && n == 3);
+    HOLDS(FOLLOW(&queue, segments, &n) == 0 && n == 3);
     HOLDS(segments[0].range.addr == (uint64_t)(uintptr_t)(memory + 0x1000) && segments[0].range.len == 16 && !segments[0].writable);
     HOLDS(segments[1].guest_addr == GUEST + 0x3000 && segments[1].range.len == 512 && segments[1].writable);
     HOLDS(segments[2].range.len == 1 && segments[2].writable);
@@ -143,7 +195,7 @@ static void refused(covretin_descriptor first, covretin_descriptor second, enum 
 {
     covretin_queue queue = opened();
     covretin_split_ring ring = split_ring();
-    covretin_segment segments[8];
+    static covretin_segment segments[1024]; /* (a loop ends once a chain has as many) */
     uint16_t count;
     size_t n;
 
@@ -152,8 +204,8 @@ static void refused(covretin_descriptor first, covretin_descriptor second, enum 
     put(16, &second, sizeof second);
     HOLDS(covretin_queue_available(&queue, 1, &count) == 0);
     HOLDS(covretin_queue_pop(&queue, 0) == 0);
-    HOLDS(follow(&queue, segments, &n) == as);
-    HOLDS(follow(&queue, segments, &n) == COVRETIN_QUEUE_NEEDS_RESET);
+    HOLDS(FOLLOW(&queue, segments, &n) == as);
+    HOLDS(FOLLOW(&queue, segments, &n) == COVRETIN_QUEUE_NEEDS_RESET);
     HOLDS(covretin_queue_pop(&queue, 0) == COVRETIN_QUEUE_NEEDS_RESET);
     covretin_queue_close(&queue);
 }
@@ -164,7 +216,7 @@ static void refused_chains(void)
     covretin_descriptor back = {GUEST, 16, 1, 0}, away = {GUEST, 16, 1, 4}, empty = {GUEST, 0, 0, 0}, long_one = {GUEST, SIZE + 1, 0, 0};
     covretin_descriptor written = {GUEST, 16, 3, 1}, odd = {GUEST, 24, 4, 0}, on = {GUEST, 16, 5, 0}, greater = {GUEST, 1025 * 16, 4, 0};
 
-    refused(one, back, COVRETIN_QUEUE_DESCRIPTOR_LOOP);
+    refused(one, back, COVRETIN_QUEUE_CHAIN_TOO_LONG);
     refused(one, away, COVRETIN_QUEUE_NOT_IN_TABLE);
     refused(one, empty, COVRETIN_QUEUE_EMPTY_DESCRIPTOR);
     refused(one, long_one, COVRETIN_QUEUE_NOT_IN_GUEST);
@@ -193,7 +245,7 @@ static void packed_queue(void)
     put_descriptor(16, GUEST + 0x2000, 512, 2, 0x82);
     HOLDS(covretin_queue_available_place(&queue, &place) == 0);
     HOLDS(covretin_queue_available(&queue, get16(place), &count) == 0 && count == 1);
-    HOLDS(follow(&queue, segments, &n) == 0 && n == 2);
+    HOLDS(FOLLOW(&queue, segments, &n) == 0 && n == 2);
     HOLDS(segments[1].guest_addr == GUEST + 0x2000 && segments[1].writable);
     HOLDS(covretin_queue_available_place(&queue, &place) == 0 && place.addr == (uint64_t)(uintptr_t)(memory + 46));
     HOLDS(covretin_queue_available(&queue, get16(place), &count) == 0 && count == 0);
@@ -209,7 +261,7 @@ static void packed_queue(void)
     HOLDS(covretin_queue_pop(&queue, 0) == COVRETIN_QUEUE_OTHER_LAYOUT);
     put_descriptor(32, GUEST + 0x1000, 16, 2, 0x80);
     HOLDS(covretin_queue_available(&queue, 0x80, &count) == 0 && count == 1);
-    HOLDS(follow(&queue, segments, &n) == 0 && n == 1);
+    HOLDS(FOLLOW(&queue, segments, &n) == 0 && n == 1);
     HOLDS(covretin_queue_base(&queue, &base) == 0 && base == 0x80020000);
     HOLDS(covretin_queue_add_used(&queue, 2, 0, &used) == 0 && used.then_value == 0x8080);
     HOLDS(covretin_queue_base(&queue, &base) == 0 && base == 0);
@@ -264,7 +316,7 @@ static void adjoining_regions(void)
     put_descriptor(16, GUEST + 0x1ff0, 0x1030, 3, 2);
     put_descriptor(32, GUEST + 0x2fff, 1, 2, 0);
     HOLDS(covretin_queue_available(&queue, 1, &count) == 0 && covretin_queue_pop(&queue, 0) == 0);
-    HOLDS(follow(&queue, segments, &n) == 0 && n == 5);
+    HOLDS(FOLLOW(&queue, segments, &n) == 0 && n == 5);
     expect_parts(segments + 1, true);
     HOLDS(segments[4].range.addr == (uint64_t)(uintptr_t)(memory + 0x8fff) && segments[4].range.len == 1);
     HOLDS(covretin_queue_add_used(&queue, 0, 0x1031, &used) == 0);
@@ -281,7 +333,7 @@ static void adjoining_regions(void)
     HOLDS(covretin_queue_step(&queue, &other, segments, &found) == COVRETIN_QUEUE_CHAIN_ENDED);
     put_descriptor(32, GUEST + 0x3fff, 2, 0, 0);
     HOLDS(covretin_queue_available(&queue, 3, &count) == 0 && covretin_queue_pop(&queue, 2) == 0);
-    HOLDS(follow(&queue, segments, &n) == COVRETIN_QUEUE_NOT_IN_GUEST && n == 1); /* no region goes on there */
+    HOLDS(FOLLOW(&queue, segments, &n) == COVRETIN_QUEUE_NOT_IN_GUEST && (copies_at_once || n == 1)); /* no region goes on there */
     covretin_queue_close(&queue);
 }
 
@@ -300,7 +352,7 @@ static void adjoining_regions_packed(void)
     put_descriptor(0, GUEST + 0x1ff0, 0x1030, 0, 0x81);
     put_descriptor(16, GUEST + 0x1ff0, 0x1030, 3, 0x82);
     HOLDS(covretin_queue_available(&queue, 0x81, &count) == 0 && count == 1);
-    HOLDS(follow(&queue, segments, &n) == 0 && n == 6);
+    HOLDS(FOLLOW(&queue, segments, &n) == 0 && n == 6);
     expect_parts(segments, false);
     expect_parts(segments + 3, true);
     HOLDS(covretin_queue_base(&queue, &base) == 0 && base == 0x80008002);
@@ -309,7 +361,7 @@ static void adjoining_regions_packed(void)
     put_descriptor(0x200, GUEST + 0x1ff0, 0x1030, 0, 0);
     put_descriptor(0x210, GUEST + 0x1ff0, 0x1030, 0, 2);
     HOLDS(covretin_queue_available(&queue, 0x84, &count) == 0 && count == 1);
-    HOLDS(follow(&queue, segments, &n) == 0 && n == 6);
+    HOLDS(FOLLOW(&queue, segments, &n) == 0 && n == 6);
     expect_parts(segments, false);
     expect_parts(segments + 3, true);
     HOLDS(covretin_queue_add_used(&queue, 1, 0x1030, &used) == 0 && used.then.addr == (uint64_t)(uintptr_t)(memory + 46));
@@ -335,11 +387,76 @@ static void many_borders(void)
     put_descriptor(0, GUEST + 0xfff, 1 + 508 * 16, 1, 1);
     put_descriptor(16, GUEST + 0xfff, 1, 0, 0);
     HOLDS(covretin_queue_available(&queue, 1, &count) == 0 && covretin_queue_pop(&queue, 0) == 0);
-    HOLDS(follow(&queue, segments, &n) == 0 && n == 510);
+    HOLDS(FOLLOW(&queue, segments, &n) == 0 && n == 510);
     put_descriptor(48, GUEST + 0xfff, 1 + 508 * 16, 1, 1);
     put_descriptor(16, GUEST + 0xfff, 2, 0, 0);
     HOLDS(covretin_queue_available(&queue, 2, &count) == 0 && covretin_queue_pop(&queue, 3) == 0);
-    HOLDS(follow(&queue, segments, &n) == COVRETIN_QUEUE_CHAIN_TOO_LONG && n == 509);
+    HOLDS(FOLLOW(&queue, segments, &n) == COVRETIN_QUEUE_CHAIN_TOO_LONG && (copies_at_once || n == 509));
+    covretin_queue_close(&queue);
+}
+
+/* What is given of a chain that has ended, or of no queue, is refused; no copies, or no places, are no error. */
+static void walks_of_no_chain(void)
+{
+    covretin_queue queue = {0};
+    covretin_split_ring ring = split_ring();
+    covretin_descriptor copies[2] = {{GUEST, 16, 1, 1}, {GUEST + 16, 16, 2, 0}};
+    covretin_segment segments[2];
+    covretin_table table;
+    covretin_walked walked = {9, 9, {{9, 9}, 9, true}};
+    uint16_t count;
+
+    HOLDS(covretin_queue_table(&queue, &table) == COVRETIN_QUEUE_NO_QUEUE);
+    HOLDS(covretin_queue_walk(&queue, copies, 2, segments, 2, &walked) == COVRETIN_QUEUE_NO_QUEUE);
+    queue = opened();
+    HOLDS(covretin_queue_table(&queue, &table) == 0 && !table.goes_on);
+    HOLDS(covretin_queue_walk(&queue, copies, 2, segments, 2, &walked) == COVRETIN_QUEUE_NOT_STARTED && walked.count == 9);
+    HOLDS(covretin_queue_start_split(&queue, &ring) == 0);
+    HOLDS(covretin_queue_walk(&queue, copies, 2, segments, 2, &walked) == COVRETIN_QUEUE_CHAIN_ENDED && walked.taken == 9);
+    HOLDS(covretin_queue_available(&queue, 1, &count) == 0 && covretin_queue_pop(&queue, 3) == 0);
+    HOLDS(covretin_queue_table(&queue, &table) == 0 && table.goes_on && table.next == 3);
+    HOLDS(table.range.addr == (uint64_t)(uintptr_t)memory && table.range.len == 64);
+    HOLDS(covretin_queue_walk(&queue, copies, 0, segments, 2, &walked) == 0 && walked.taken == 0 && walked.count == 0);
+    HOLDS(covretin_queue_walk(&queue, copies, 2, segments, 0, &walked) == 0 && walked.taken == 0 && walked.table.next == 3);
+    HOLDS(covretin_queue_walk(&queue, copies, 1, segments, 2, &walked) == 0 && walked.taken == 1 && walked.table.next == 1);
+    HOLDS(covretin_queue_walk(&queue, copies + 1, 1, segments + 1, 1, &walked) == 0 && walked.count == 1 && !walked.table.goes_on);
+    HOLDS(!segments[0].writable && segments[1].writable && segments[1].guest_addr == GUEST + 16);
+    covretin_queue_close(&queue);
+}
+
+/* A head that is given back is available again, and the entry that it was read from is read again. One that is adopted is used, and is not
+ * followed. */
+static void given_back(void)
+{
+    covretin_queue queue = opened();
+    covretin_split_ring ring = split_ring();
+    covretin_packed_ring packed = {USER, USER + 0x100, USER + 0x104, 3, 0x8000, 0x8000, true, false};
+    covretin_range place, again;
+    covretin_table table;
+    covretin_used used;
+    uint16_t count;
+    uint32_t base;
+
+    HOLDS(covretin_queue_give_back(&queue, 0) == COVRETIN_QUEUE_NOT_STARTED && covretin_queue_adopt(&queue, 0) == COVRETIN_QUEUE_NOT_STARTED);
+    HOLDS(covretin_queue_start_split(&queue, &ring) == 0);
+    HOLDS(covretin_queue_give_back(&queue, 0) == COVRETIN_QUEUE_NOT_HANDED_OUT && covretin_queue_base(&queue, &base) == 0 && base == 0);
+    HOLDS(covretin_queue_available(&queue, 2, &count) == 0 && count == 2);
+    HOLDS(covretin_queue_pop(&queue, 1) == 0 && covretin_queue_head_place(&queue, &place) == 0 && covretin_queue_pop(&queue, 2) == 0);
+    HOLDS(covretin_queue_give_back(&queue, 2) == 0 && covretin_queue_base(&queue, &base) == 0 && base == 1);
+    HOLDS(covretin_queue_give_back(&queue, 2) == COVRETIN_QUEUE_NOT_HANDED_OUT && covretin_queue_give_back(&queue, 4) == COVRETIN_QUEUE_NOT_HANDED_OUT);
+    HOLDS(covretin_queue_table(&queue, &table) == 0 && !table.goes_on);
+    HOLDS(covretin_queue_head_place(&queue, &again) == 0 && again.addr == place.addr);
+    HOLDS(covretin_queue_pop(&queue, 2) == 0 && covretin_queue_add_used(&queue, 2, 0, &used) == 0);
+    HOLDS(covretin_queue_adopt(&queue, 1) == COVRETIN_QUEUE_HEAD_IN_USE && covretin_queue_adopt(&queue, 4) == COVRETIN_QUEUE_NOT_IN_TABLE);
+    HOLDS(covretin_queue_adopt(&queue, 3) == 0 && covretin_queue_adopt(&queue, 3) == COVRETIN_QUEUE_HEAD_IN_USE);
+    HOLDS(covretin_queue_base(&queue, &base) == 0 && base == 2);
+    HOLDS(covretin_queue_add_used(&queue, 3, 7, &used) == 0 && used.elem_value == 3 + ((uint64_t)7 << 32) && used.then_value == 2);
+    /* (four are available, and one was read: more than four would be) */
+    HOLDS(covretin_queue_available(&queue, 6, &count) == 0 && count == 4);
+    HOLDS(covretin_queue_give_back(&queue, 1) == COVRETIN_QUEUE_TOO_MANY_AVAILABLE);
+    HOLDS(covretin_queue_add_used(&queue, 1, 0, &used) == 0);
+    HOLDS(covretin_queue_start_packed(&queue, &packed) == 0);
+    HOLDS(covretin_queue_give_back(&queue, 0) == COVRETIN_QUEUE_OTHER_LAYOUT && covretin_queue_adopt(&queue, 0) == COVRETIN_QUEUE_OTHER_LAYOUT);
     covretin_queue_close(&queue);
 }
 
@@ -443,12 +560,20 @@ static void inflight_and_log(void)
 
 int main(void)
 {
-    RUN(split_queue);
-    RUN(refused_chains);
-    RUN(packed_queue);
-    RUN(adjoining_regions);
-    RUN(adjoining_regions_packed);
-    RUN(many_borders);
+    /* by steps; by walks of a descriptor each, of two into a place, and of all into all */
+    const size_t ways[4][2] = {{0, 0}, {1, 600}, {2, 1}, {MOST_COPIES, 600}};
+    for (size_t i = 0; i < 4; i++) {
+        copies_at_once = ways[i][0];
+        places_at_once = ways[i][1];
+        RUN(split_queue);
+        RUN(refused_chains);
+        RUN(packed_queue);
+        RUN(adjoining_regions);
+        RUN(adjoining_regions_packed);
+        RUN(many_borders);
+    }
+    RUN(walks_of_no_chain);
+    RUN(given_back);
     RUN(taken_again);
     RUN(packed_inflight);
     RUN(inflight_and_log);

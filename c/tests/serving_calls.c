@@ -47,7 +47,7 @@ static size_t told; /* how many descriptors the session was told of */
 
 static bool is_of_service(int fd)
 {
-    return fd >= 0 && (fd == covretin_service_fd(&service) || fd == covretin_listener_fd(&listener));
+    return fd >= 0 && runs_tests() && (fd == covretin_service_fd(&service) || fd == covretin_listener_fd(&listener));
 }
 
 /* Whether this call is not to reach the system. */

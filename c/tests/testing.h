@@ -24,9 +24,12 @@ int status(void);
 /* How many descriptors this process has open. */
 size_t open_fds(void);
 
-/* Whether what was done since this was called last waited: it took a second, and the thread slept meanwhile. On a busy machine it may take
- * as long, but does not sleep. */
+/* Whether what was done since this was called last waited: the thread slept for a second. On a busy machine it waits for a processor as long,
+ * which is not sleep. */
 bool has_waited(void);
+
+/* Whether this thread runs the tests. The library closes sockets in threads of its own, which may outlive a connection. */
+bool runs_tests(void);
 
 /* Ends the program with status 3: a call of the system failed that the tests need. */
 void give_up(const char *what);

@@ -18,26 +18,27 @@ use covretin::vhost_user::{BackendListener, Listener};
 /// The program; how it is compiled, ./test-rust knows.
 const PROGRAM: &str = "COVRETIN_FRONTEND";
 
-/// The text that a file has from here on.
+/// The text that a file has from here on, up to the first zero.
 fn text_at(file: &File, place: u64) -> String {
     let mut bytes = [0; 64];
     let count = file.read_at(&mut bytes, place).unwrap();
-    String::from_utf8(bytes[..count].to_vec()).unwrap()
+    let text = bytes[..count].split(|&byte| byte == 0).next().unwrap();
+    String::from_utf8(text.to_vec()).unwrap()
 }
 
 /// Follows a kick by a call, once both are there.
 fn ring(device: &Shared) {
     let end = Instant::now() + Duration::from_secs(20);
-    while !seen(device).asked.iter().any(|it| it == "set_vring_call 0") {
+    while !seen(device).asked.iter().any(|it| it == "set_vring_kick 0") {
         assert!(Instant::now() < end, "the ring was not set up");
         sleep(Duration::from_millis(1));
     }
     let file = |at: usize| seen(device).files[at].try_clone().unwrap();
-    let (mut kick, mut call) = (file(2), file(3));
-    let mut told = [0];
-    kick.read_exact(&mut told).unwrap();
-    assert_eq!(b"k", &told);
-    call.write_all(b"c").unwrap();
+    let (mut call, mut kick) = (file(2), file(3));
+    let mut count = [0; 8];
+    kick.read_exact(&mut count).unwrap();
+    assert_eq!(1, u64::from_ne_bytes(count));
+    call.write_all(&count).unwrap();
 }
 
 #[test]
@@ -63,7 +64,7 @@ fn a_frontend_in_c() {
         assert_eq!(read_to_string(format!("{wanted}.frontend")).unwrap(), String::from_utf8(said.stdout).unwrap());
         let device = seen(&device);
         assert_eq!(read_to_string(format!("{wanted}.device")).unwrap(), device.asked.join("\n") + "\n");
-        let texts = [(0, 0, "low memory"), (1, 5, "igh memory"), (4, 0x2000, "in flight")];
+        let texts = [(0, 0, "low memory"), (1, 0x1000, "high memory"), (4, 0x2000, "in flight")];
         for (at, place, text) in texts {
             assert_eq!(text, text_at(&device.files[at], place));
         }

@@ -198,6 +198,22 @@ fn replies_that_are_none() {
     });
 }
 
+/// A reply whose header says another size than one has is refused at that, and its body is not waited for. (what the crate's own test sends)
+#[test]
+fn replies_of_another_size() {
+    counted(|| {
+        for size in [1u32, 4, 16, 4096] {
+            let (channel, peer) = asking();
+            allow_all(&channel);
+            channel.set_reply_ack_flag(true);
+            channel.set_timeout(Some(Duration::from_secs(20)));
+            let header: Vec<u8> = [6, REPLIES, size].iter().flat_map(|word| word.to_le_bytes()).collect();
+            peer.say(&[&header[..], &[0; 8]].concat()[..12 + (size as usize).min(8)], &[]);
+            assert_eq!("invalid message", channel.shared_object_add(&object()).unwrap_err().to_string(), "{size}");
+        }
+    });
+}
+
 #[test]
 fn a_channel_that_ends() {
     counted(|| {

@@ -239,8 +239,8 @@ fn names_what_is_wrong() {
     let one = (GUEST + BUFFERS, 16, NEXT, 1);
     let long = vec![(GUEST + BUFFERS, 1, NEXT, 0)];
     let cases: Vec<(queue::Error, Vec<Descriptor>)> = vec![
-        (queue::Error::DescriptorLoop, vec![one, (GUEST, 16, NEXT, 0)]),
-        (queue::Error::DescriptorLoop, long),
+        (queue::Error::ChainTooLong, vec![one, (GUEST, 16, NEXT, 0)]),
+        (queue::Error::ChainTooLong, long),
         (queue::Error::NotInTable, vec![one, (GUEST, 16, NEXT, SIZE)]),
         (queue::Error::EmptyDescriptor, vec![one, (GUEST, 0, 0, 0)]),
         (queue::Error::NotInGuest, vec![one, (GUEST, MEMORY as u32 + 1, 0, 0)]),

@@ -183,6 +183,76 @@ fn disk() {
     });
 }
 
+/// A packet of the guest's stream, from port 1000 to port 7.
+fn packet(operation: u16, bytes: &[u8]) -> Vec<u8> {
+    let cids = [3u64.to_le_bytes(), 2u64.to_le_bytes()].concat();
+    let words = [1000, 7, bytes.len() as u32, 1 | u32::from(operation) << 16, 0, 0x1_0000, 0];
+    [cids, words.iter().flat_map(|word| word.to_le_bytes()).collect(), bytes.to_vec()].concat()
+}
+
+fn send_packet(ring: &mut Ring, operation: u16, bytes: &[u8]) {
+    let sent = packet(operation, bytes);
+    ring.memory.write_all_at(&sent, ring.buffer(0)).unwrap();
+    ring.describe(0, (GUEST + ring.buffer(0), sent.len() as u32, 0, 0));
+    ring.post(0);
+    assert_eq!((0, 0), ring.used());
+}
+
+/// The next packet that came: its ports, what it is, and its bytes.
+fn received(ring: &mut Ring) -> ((u32, u32), u16, Vec<u8>) {
+    let (head, count) = ring.used();
+    let mut bytes = vec![0; count as usize];
+    ring.memory.read_exact_at(&mut bytes, ring.buffer(head as u16)).unwrap();
+    let word = |at: usize| u32::from_le_bytes(bytes[at..at + 4].try_into().unwrap());
+    assert_eq!((count - 44, 1), (word(24), word(28) & 0xffff));
+    ((word(16), word(20)), (word(28) >> 16) as u16, bytes[44..].to_vec())
+}
+
+fn offer(ring: &mut Ring, heads: std::ops::Range<u16>) {
+    for head in heads {
+        ring.describe(head, (GUEST + ring.buffer(head), 0x100, WRITE, 0));
+        ring.post(head);
+    }
+}
+
+/// A guest that has a stream and reboots has it again: its buffers are not kept, so that nobody waits where it stops.
+#[test]
+#[ignore = "needs COVRETIN_EXAMPLES"]
+fn vsock() {
+    counted(|| {
+        let example = Example::new("vsock", &[]);
+        for _ in 0..2 {
+            let (mut frontend, mut rings) = example.machine(2);
+            let cid = frontend.get_config(0, 8, VhostUserConfigFlags::empty(), &[0; 8]).unwrap().1;
+            assert_eq!(3u64.to_le_bytes(), *cid);
+            for _ in 0..2 {
+                offer(&mut rings[0], 0..4);
+                send_packet(&mut rings[1], 1, b"");
+                assert_eq!(((7, 1000), 2, vec![]), received(&mut rings[0]));
+                send_packet(&mut rings[1], 5, b"echo");
+                assert_eq!(((7, 1000), 5, b"echo".to_vec()), received(&mut rings[0]));
+                // More than the buffers that are there have room for comes once there are others.
+                send_packet(&mut rings[1], 5, &[7; 0x100 * 4]);
+                assert_eq!([212, 212], [received(&mut rings[0]).2.len(), received(&mut rings[0]).2.len()]);
+                offer(&mut rings[0], 0..7);
+                assert_eq!(vec![7; 212], received(&mut rings[0]).2);
+                let rest: usize = (0..2).map(|_| received(&mut rings[0]).2.len()).sum();
+                assert_eq!(0x400 - 3 * 212, rest);
+                // (with buffers that are not used, and bytes that are not read)
+                assert_eq!([7, 3], [0, 1].map(|index| frontend.get_vring_base(index).unwrap()));
+                rings.iter_mut().for_each(|ring| {
+                    ring.memory.write_all_at(&[0; 2 * 4096], ring.place(1, 0)).unwrap();
+                    ring.start(&mut frontend, 0);
+                });
+            }
+            drop(frontend);
+        }
+        let (status, said) = example.end();
+        assert_eq!(Some(0), status);
+        assert!(said.lines().all(|line| line == "a frontend went: peer disconnected"), "{said}");
+    });
+}
+
 /// What it is given is closed without waiting, where it keeps that and where it does not.
 #[test]
 #[ignore = "needs COVRETIN_EXAMPLES"]

@@ -131,6 +131,31 @@ fn chains_of_a_split_queue() {
     });
 }
 
+/// A chain of more descriptors than are copied at once, in an indirect table.
+#[test]
+fn a_chain_of_many_descriptors() {
+    counted(|| {
+        for is_packed in [false, true] {
+            let mut it = Played::new(is_packed);
+            it.queue.set_ready(true).unwrap();
+            for at in 0..150u16 {
+                let flags = if at < 100 { 0 } else { WRITE } | if at < 149 { NEXT } else { 0 };
+                let (third, fourth) = if is_packed { (0, flags) } else { (flags, at + 1) };
+                it.describe(0x2000 + u64::from(at) * 16, (GUEST + 0x4000 + u64::from(at), 1, third, fourth));
+            }
+            let (third, fourth) = if is_packed { (2, 0x80 | INDIRECT) } else { (INDIRECT, 0) };
+            it.describe(0, (GUEST + 0x2000, 150 * 16, third, fourth));
+            if !is_packed {
+                it.offer(0);
+            }
+            let chain = it.queue.pop().unwrap().unwrap();
+            assert_eq!((100, 50), (chain.readable_len(), chain.writable_len()));
+            assert_eq!((vec![1; 100], vec![1; 50]), (lengths(chain.readable()), lengths(chain.writable())));
+            it.queue.add_used(&chain, 50).unwrap();
+        }
+    });
+}
+
 #[test]
 fn chains_come_one_after_another() {
     counted(|| {

@@ -26,24 +26,26 @@ fn wrong_with(name: &str, profile: &str) -> Vec<String> {
     complaints(&tap(&[profile, "--replay", file.to_str().unwrap()]))
 }
 
-const LOG_REPLY: &str =
-    "24.6846 1 B>F SET_LOG_BASE [REPLY] size=0x2000 ! the reply to SET_LOG_BASE has 8 bytes of body, and not 16";
+/// QEMU's storage daemon replies with a half of the record, which real frontends take.
+const LOG_REPLY: &str = "24.6846 1 B>F SET_LOG_BASE [REPLY] size=0x2000";
+const LOG_DIFFERENCE: &str = "the reply to SET_LOG_BASE has 8 bytes of body, and not 16";
 
 /// Where the recording of a destination ends, whose backend was to map a region for postcopy.
-const NO_REPLY: &str = "1.7814 1 no more was seen ! ADD_MEM_REG was not replied to: what was seen ended 0.0000 s later";
+const NO_REPLY: &str = "1.7814 1 no more was seen ~ ADD_MEM_REG is unanswered, as what was seen ended 0.0000 s later";
 
 #[test]
 fn real_peers_keep_to_the_table() {
     assert_eq!(15, recordings().len());
     for file in recordings() {
         let name = name_of(&file);
-        let known: &[&str] = match name.as_str() {
-            // QEMU's storage daemon replies with a half of the record.
-            "mig_native-src" => &[LOG_REPLY],
-            "mig_post-dst" => &[NO_REPLY],
-            _ => &[],
+        let output = tap(&["--profile=standard", "--replay", file.to_str().unwrap()]);
+        let known = match name.as_str() {
+            "mig_native-src" => vec![format!("{LOG_REPLY} ~ {LOG_DIFFERENCE}: not by the letter, taken by Standard")],
+            "mig_post-dst" => vec![NO_REPLY.to_string()],
+            _ => vec![],
         };
-        assert_eq!(known, wrong_with(&name, "--profile=standard"), "{name}");
+        assert_eq!(known, notes(&output), "{name}");
+        assert_eq!(Vec::<String>::new(), complaints(&output), "{name}");
     }
 }
 
@@ -55,8 +57,7 @@ fn each_known_difference_from_the_crate_is_told_at_its_message() {
         let found = wrong_with(&name, "--profile=vhost");
         told += found.len();
         match name.as_str() {
-            "mig_native-src" => assert_eq!([LOG_REPLY], found.as_slice()),
-            "mig_post-dst" => assert_eq!([NO_REPLY], found.as_slice()),
+            "mig_native-src" => assert_eq!([format!("{LOG_REPLY} ! {LOG_DIFFERENCE}")], found.as_slice()),
             "br_net4" => {
                 assert_eq!(10, found.len());
                 for it in &found {
@@ -82,7 +83,7 @@ fn each_known_difference_from_the_crate_is_told_at_its_message() {
             _ => assert_eq!(Vec::<String>::new(), found, "{name}"),
         }
     }
-    assert_eq!(14, told);
+    assert_eq!(13, told);
 }
 
 /// Each message of a recording is a line of JSON, with its bytes where they are wanted.
@@ -101,8 +102,8 @@ fn lines_of_json() {
         assert_eq!(bytes(&recorded), bytes(&shown));
         assert!(shown.lines().last().unwrap().starts_with("{\"summary\": {\"sessions\": "));
         let told =
-            "{\"t\": 24.6846, \"session\": 1, \"way\": \"B>F\", \"complaint\": \"the reply to SET_LOG_BASE has 8 bytes of body, \
-                    and not 16\"}\n";
+            "{\"t\": 24.6846, \"session\": 1, \"way\": \"B>F\", \"taken\": \"the reply to SET_LOG_BASE has 8 bytes of body, \
+                    and not 16: not by the letter, taken by Standard\"}\n";
         assert_eq!(name_of(&file) == "mig_native-src", shown.contains(told));
     }
 }
@@ -233,7 +234,7 @@ fn requests_that_are_refused() {
 fn replies_that_the_table_has_not() {
     let all = ALL;
     let owner = wants(3, &[]);
-    let rows: [(&str, Vec<Said>); 11] = [
+    let rows: [(&str, Vec<Said>); 10] = [
         (
             "a reply to SET_FEATURES, where one to SET_OWNER is awaited",
             vec![owner.clone(), replies(2, &number(0)), replies(3, &number(0))],
@@ -250,14 +251,29 @@ fn replies_that_the_table_has_not() {
             vec![asks(24, &[4, 0, 0, 0, 1, 0, 0, 0, 0, 0, 0, 0, 0]), replies(24, &[0, 0, 0, 0, 1, 0, 0, 0, 0, 0, 0, 0, 5])],
         ),
         ("the reply to GET_INFLIGHT_FD has 0 descriptors, and not 1", vec![asks(31, &[1; 24]), replies(31, &[1; 24])]),
-        (
-            "the reply to SET_LOG_BASE has size=0x2000 offset=0x0, and not size=0x1000 offset=0x0",
-            vec![said(6, ASKS, &[number(0x1000), number(0)].concat(), 1), replies(6, &[number(0x2000), number(0)].concat())],
-        ),
     ];
     for (wanted, session) in rows {
         assert_eq!([wanted], wrong_behind(STANDARD, all, &session).as_slice());
     }
+}
+
+/// A reply to SET_LOG_BASE, of any size: frontends of Standard take it, and the crate's do not. Descriptors and flags are another matter.
+#[test]
+fn replies_that_are_taken() {
+    let asked = said(6, ASKS, &[number(0x1000), number(0)].concat(), 1);
+    for (reply, differs) in [
+        (number(0x1000), LOG_DIFFERENCE),
+        (
+            [number(0x2000), number(0)].concat(),
+            "the reply to SET_LOG_BASE has size=0x2000 offset=0x0, and not size=0x1000 offset=0x0",
+        ),
+    ] {
+        let session = [asked.clone(), replies(6, &reply)];
+        assert_eq!(Vec::<String>::new(), wrong_behind(STANDARD, ALL, &session));
+        assert_eq!([differs], wrong_behind(VHOST, ALL, &session).as_slice());
+    }
+    let session = [asked, said(6, REPLIES, &number(0), 1)];
+    assert_eq!(["the reply to SET_LOG_BASE has 1 descriptor, and not 0"], wrong_behind(STANDARD, ALL, &session).as_slice());
 }
 
 #[test]
@@ -410,8 +426,8 @@ fn fields_by_their_names() {
         ),
         ("B>F SET_OWNER [REPLY] result=failed(7)".to_string(), replies(3, &number(7))),
         (
-            "B>F GET_SHMEM_CONFIG [REPLY] regions=2 [size=0x1000] [size=0x2000]".to_string(),
-            replies(44, &[number(2), number(0x1000), number(0x2000)].concat()),
+            "B>F GET_SHMEM_CONFIG [REPLY] regions=2 [region=0 size=0x1000] [region=3 size=0x2000]".to_string(),
+            replies(44, &[number(2), number(0x1000), number(0), number(0), number(0x2000), vec![0; 2016]].concat()),
         ),
         ("F>B request 99 bytes=01".to_string(), asks(99, &[1])),
     ];
@@ -454,12 +470,13 @@ fn bytes_that_are_no_message() {
         "{\"t\": 2, \"session\": 1, \"way\": \"F>B\", \"bytes\": \"0100\", \"fds\": [], \"fds_at\": [], \"body_fds\": 0, \
                  \"cuts\": [2], \"short\": true}\n";
     let file = std::env::temp_dir().join(format!("covretin-tap-{}-raw", std::process::id()));
-    write(&file, [line, short].concat()).unwrap();
+    let end = "{\"t\": 3, \"session\": 1, \"way\": \"F>B\", \"end\": \"eof\"}\n";
+    write(&file, [line, short, end].concat()).unwrap();
     let found = complaints(&tap(&["--replay", file.to_str().unwrap()]));
     remove_file(&file).unwrap();
     let wanted = [
         "1.0000 1 F>B 2 bytes ! these bytes are no message; nothing behind it is judged",
-        "2.0000 1 F>B a part of a header [version0] (cut short: 2 bytes) ! the stream ended behind 2 bytes of a header",
+        "3.0000 1 F>B end ! the stream ended behind 2 bytes of a header",
     ];
     assert_eq!(wanted, found.as_slice());
 }
@@ -516,23 +533,76 @@ fn said_of(bytes: impl AsRef<[u8]>, words: &[&str]) -> Output {
     output
 }
 
-/// A recording that ends with no end of its session, as where the tap was killed: what is awaited then was not replied to.
+/// A recording that ends with no end of its session, as where the tap was killed: what is awaited then is unanswered, by nobody's fault.
 #[test]
 fn what_is_awaited_at_the_end_of_a_recording() {
     let asked = line_at(1.0, 7, "F>B", &message(1, ASKS, &[]));
     let later = line_at(2.5, 8, "F>B", &message(3, ASKS, &[]));
-    let wanted = "2.5000 7 no more was seen ! GET_FEATURES was not replied to: what was seen ended 1.5000 s later";
-    assert_eq!([wanted], complaints(&said_of([asked.clone(), later].concat(), &[])).as_slice());
+    let wanted = "2.5000 7 no more was seen ~ GET_FEATURES is unanswered, as what was seen ended 1.5000 s later";
+    let output = said_of([asked.clone(), later].concat(), &[]);
+    assert_eq!([wanted], notes(&output).as_slice());
+    assert_eq!([""; 0], complaints(&output).as_slice());
+    assert!(text(&output.stdout).ends_with("\n= nothing is wrong, unanswered: 1\n"));
     let output = said_of(&asked, &["--json"]);
-    let wanted = "{\"t\": 1, \"session\": 7, \"left\": true}\n{\"t\": 1, \"session\": 7, \"complaint\": \
-                  \"GET_FEATURES was not replied to: what was seen ended 0.0000 s later\"}\n{\"summary\": ";
+    let wanted = "{\"t\": 1, \"session\": 7, \"left\": true}\n{\"t\": 1, \"session\": 7, \"unanswered\": \
+                  \"GET_FEATURES is unanswered, as what was seen ended 0.0000 s later\"}\n{\"summary\": ";
     assert!(text(&output.stdout).contains(wanted), "{}", text(&output.stdout));
-    assert_eq!(Some(1), output.status.code());
+    assert_eq!(Some(0), output.status.code());
     // What awaits nothing, and a session that has ended, are not wrong.
     let nothing = line_at(1.0, 7, "F>B", &message(3, ASKS, &[]));
     let end = "{\"t\": 2, \"session\": 7, \"way\": \"B>F\", \"end\": \"eof\"}\n".to_string();
     assert_eq!([""; 0], complaints(&said_of(nothing, &[])).as_slice());
     assert_eq!(1, complaints(&said_of([asked, end].concat(), &[])).len());
+}
+
+/// Who ended a session amid a request is told, and a backend is blamed where it was that alone.
+#[test]
+fn who_ended_a_session() {
+    let asked = line_at(1.0, 1, "F>B", &message(1, ASKS, &[]));
+    let end =
+        |time, way: &str, cause: &str| format!("{{\"t\": {time}, \"session\": 1, \"way\": \"{way}\", \"end\": \"{cause}\"}}\n");
+    let (stopped, reset) = ("the tap was stopped", "Connection reset by peer (os error 104)");
+    for (before, cause, by) in [
+        (end(2, "F>B", "eof"), "eof", "the frontend"),
+        (end(2, "F>B", reset), "eof", "the frontend"),
+        (String::new(), "it is no longer received: Broken pipe (os error 32)", "the frontend"),
+        (end(2, "F>B", stopped), stopped, "the tap"),
+        (String::new(), stopped, "the tap"),
+    ] {
+        let output = said_of([asked.clone(), before, end(3, "B>F", cause)].concat(), &[]);
+        let wanted = format!(
+            "3.0000 1 B>F end{} ~ GET_FEATURES is unanswered, as the session was ended by {by} 2.0000 s later",
+            match cause {
+                "eof" => String::new(),
+                cause => format!(": {cause}"),
+            }
+        );
+        assert_eq!([wanted], notes(&output).as_slice());
+        assert_eq!([""; 0], complaints(&output).as_slice());
+    }
+    for before in
+        [String::new(), end(2, "F>B", "it sends no more, and still receives"), end(2, "F>B", "it is no longer received: ..")]
+    {
+        let output = said_of([asked.clone(), before, end(3, "B>F", "eof")].concat(), &[]);
+        assert_eq!(
+            ["3.0000 1 B>F end ! GET_FEATURES was never replied to: the session ended 2.0000 s later"],
+            complaints(&output).as_slice()
+        );
+    }
+}
+
+/// What came last of a message is told with the end of its way, whichever way is told of first.
+#[test]
+fn both_ways_end_amid_a_message() {
+    let way = |time, way: &str, what: &str| format!("{{\"t\": {time}, \"session\": 1, \"way\": \"{way}\", {what}}}\n");
+    let short = "\"bytes\": \"0100\", \"fds\": [], \"fds_at\": [], \"body_fds\": 0, \"cuts\": [2], \"short\": true";
+    let end = "\"end\": \"eof\"";
+    for (first, second) in [("F>B", "B>F"), ("B>F", "F>B")] {
+        let told = [way(1, "F>B", short), way(2, "B>F", short), way(3, first, end), way(4, second, end)];
+        let wanted = [(3, first), (4, second)]
+            .map(|(time, way)| format!("{time}.0000 1 {way} end ! the stream ended behind 2 bytes of a header"));
+        assert_eq!(wanted, complaints(&said_of(told.concat(), &[])).as_slice());
+    }
 }
 
 /// The lines that say that a reply is awaited.

@@ -211,7 +211,9 @@ fn a_wrong_reply_is_told_and_passed_on() {
         backend.hear(&message(1, ASKS, &[]));
         backend.say(&message(15, REPLIES, &[7; 8]), &[]);
         frontend.hear(&message(15, REPLIES, &[7; 8]));
-        drop((frontend, backend));
+        drop(backend);
+        frontend.silence();
+        drop(frontend);
         let (_, found) = tap.end();
         assert_eq!("a reply to GET_PROTOCOL_FEATURES, where one to GET_FEATURES is awaited", found[0]);
         assert!(found[1].starts_with("GET_FEATURES was never replied to: the session ended "), "{found:?}");
@@ -433,9 +435,15 @@ fn a_backend_that_is_not_there() {
         let tap = Tap::of(Some(1));
         remove_file(tap.folder.join("backend")).unwrap();
         Peer { socket: tap.connect() }.silence();
-        let (shown, found) = tap.end();
+        let Tap { child, folder, .. } = tap;
+        let output = child.wait_with_output().unwrap();
+        let shown = String::from_utf8(output.stdout).unwrap();
         assert!(shown.contains(" 1 not connected: No such file or directory"), "{shown}");
-        assert_eq!(Vec::<String>::new(), found);
+        assert!(shown.ends_with("\n= not connected: 1\n"), "{shown}");
+        let said = String::from_utf8_lossy(&output.stderr);
+        assert_eq!("covretin-tap: backend: No such file or directory (os error 2)\n", said);
+        assert_eq!(Some(4), output.status.code());
+        remove_dir_all(&folder).unwrap();
     });
 }
 
@@ -594,7 +602,17 @@ fn hanging(tap: &Tap) -> (Peer, Peer) {
     (frontend, backend)
 }
 
-const UNREPLIED: &str = "GET_PROTOCOL_FEATURES was never replied to: the session ended ";
+/// What is found where that session is ended so.
+const UNREPLIED: &str = "! GET_PROTOCOL_FEATURES was never replied to: the session ended ";
+
+fn unanswered(by: &str) -> String {
+    format!("~ GET_PROTOCOL_FEATURES is unanswered, as the session was ended by {by} ")
+}
+
+/// The lines that say what is found.
+fn marked(shown: &str) -> Vec<&str> {
+    shown.lines().filter(|line| line.starts_with(['!', '~'])).collect()
+}
 
 /// Whoever ends the tap is told what is still awaited, and both sides are told that it has ended.
 #[test]
@@ -607,7 +625,9 @@ fn a_signal_while_a_reply_is_awaited() {
             frontend.silence();
             backend.silence();
             let (shown, found) = tap.end();
-            assert!(found.len() == 1 && found[0].starts_with(UNREPLIED), "{found:?}");
+            assert_eq!(Vec::<String>::new(), found);
+            let found = marked(&shown);
+            assert!(found.len() == 1 && found[0].starts_with(&unanswered("the tap")), "{found:?}");
             for way in ["F>B", "B>F"] {
                 assert!(shown.contains(&format!(" {way} end: the tap was stopped\n")), "{shown}");
             }
@@ -637,18 +657,21 @@ fn a_signal_amid_a_message() {
         frontend.say(&message(1, ASKS, &[])[..4], &[]);
         backend.hear(&message(1, ASKS, &[])[..4]);
         tap.signal(libc::SIGINT);
-        let mut found = tap.end().1;
-        found.sort();
-        assert!(found.len() == 2 && found[0].starts_with(UNREPLIED), "{found:?}");
-        assert_eq!("the stream ended behind 4 bytes of a header", found[1]);
+        let (shown, wrong) = tap.end();
+        let mut found = marked(&shown);
+        found.sort_unstable();
+        assert!(wrong.is_empty() && found.len() == 2 && found[0].starts_with(&unanswered("the tap")), "{found:?}");
+        assert_eq!("~ the stream ended behind 4 bytes of a header, as the session was ended by the tap", found[1]);
         let tap = Tap::of(None);
         let (frontend, backend) = hanging(&tap);
         backend.say(&message(15, REPLIES, &[0; 8])[..15], &[]);
         frontend.hear(&message(15, REPLIES, &[0; 8])[..15]);
         tap.signal(libc::SIGINT);
-        let found = tap.end().1;
-        assert_eq!("the stream ended behind 3 bytes of a body of 8", found[0]);
-        assert!(found.len() == 2 && found[1].starts_with(UNREPLIED), "{found:?}");
+        let (shown, wrong) = tap.end();
+        let mut found = marked(&shown);
+        found.sort_unstable();
+        assert!(wrong.is_empty() && found.len() == 2 && found[0].starts_with(&unanswered("the tap")), "{found:?}");
+        assert_eq!("~ the stream ended behind 3 bytes of a body of 8, as the session was ended by the tap", found[1]);
     });
 }
 
@@ -663,8 +686,53 @@ fn a_side_that_leaves_while_a_reply_is_awaited() {
             drop(left);
             other.silence();
             tap.signal(libc::SIGINT);
-            let found = tap.end().1;
-            assert!(found.len() == 1 && found[0].starts_with(UNREPLIED), "{found:?}");
+            let shown = tap.end().0;
+            let (found, frontend) = (marked(&shown), unanswered("the frontend"));
+            let wanted = if backend_leaves { UNREPLIED } else { &frontend };
+            assert!(found.len() == 1 && found[0].starts_with(wanted), "{found:?}");
+        }
+    });
+}
+
+/// A frontend that asks and hangs up at once, as many do: nobody is blamed, whichever end the system tells of first.
+#[test]
+fn a_frontend_that_asks_and_hangs_up() {
+    counted(|| {
+        let tap = Tap::of(Some(60));
+        for _ in 0..60 {
+            let (frontend, backend) = tap.ends();
+            frontend.say(&message(1, ASKS, &[]), &[]);
+            drop(frontend);
+            backend.hear(&message(1, ASKS, &[]));
+            backend.silence();
+        }
+        assert_eq!(Vec::<String>::new(), tap.end().1);
+    });
+}
+
+/// A busy session that a signal ends at any time is right.
+#[test]
+fn a_signal_at_any_time() {
+    counted(|| {
+        for round in 0..20 {
+            let tap = Tap::of(None);
+            let (frontend, backend) = tap.ends();
+            let answers = thread::spawn(move || {
+                let mut header = [0; 12];
+                while (&backend.socket).read_exact(&mut header).is_ok() {
+                    let _ = (&backend.socket).write_all(&message(1, REPLIES, &[0; 8]));
+                }
+            });
+            let asks = thread::spawn(move || {
+                let mut reply = [0; 20];
+                while (&frontend.socket).write_all(&message(1, ASKS, &[])).is_ok()
+                    && (&frontend.socket).read_exact(&mut reply).is_ok()
+                {}
+            });
+            thread::sleep(Duration::from_micros(20_000 + round * 377));
+            tap.signal(libc::SIGINT);
+            assert_eq!(Vec::<String>::new(), tap.end().1);
+            [answers, asks].into_iter().for_each(|thread| thread.join().unwrap());
         }
     });
 }

@@ -66,7 +66,7 @@ PLAIN = {
     "reset_owner": ((), ""),
     "set_log_fd": ((fd,), ""),
     "set_vring_num": ((index, u16), ""),
-    "set_vring_base": ((index, u32), ""),
+    "set_vring_base": ((index, u16), ""),
     "get_vring_base": ((index,), "number"),
     "set_vring_kick": ((index, fd_or_none), ""),
     "set_vring_call": ((index, fd_or_none), ""),
@@ -112,6 +112,12 @@ def set_vring_addr(words):
     return "ask_set_vring_addr", index(ring), byref(Vring(0, 0, number_of(flags, 1 << 32), *places, has_log_addr=bool(log)))
 
 
+def set_packed_vring_base(words):
+    """A ring, and both its indices."""
+    ring, base = words
+    return "ask_set_vring_base", index(ring), u32(base)
+
+
 def set_config(words):
     offset, flags, some = words
     return "ask_set_config", u32(offset), u32(flags), *octets(bytes_of(0, some))
@@ -125,6 +131,7 @@ OTHERS = {
     "remove_mem_region": (lambda words: ("ask_remove_mem_region", byref(region(words))), ""),
     "set_log_base": (set_log_base, ""),
     "set_vring_addr": (set_vring_addr, ""),
+    "set_packed_vring_base": (set_packed_vring_base, ""),
     "set_config": (set_config, ""),
     "get_shared_object": (lambda words: ("ask_get_shared_object", *octets(name_of(*words))), "fd"),
     "get_inflight_fd": (lambda words: ("ask_get_inflight_fd", byref(inflight(words))), "inflight"),

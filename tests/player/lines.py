@@ -5,14 +5,13 @@ import subprocess
 from words import Differs, Unreadable, bytes_of, expect
 
 
-
 class Lines:
     """A run of the program: what it reads, and what it must print."""
 
     steps = ("line", "rest", "raw", "prints", "complains", "status")
 
     def __init__(self, program, settings):
-        self.words = [program, *([] if settings.explained else ["-q"])]
+        self.words = [program, *["-v"] * settings.explained, *["--comments"] * settings.comments]
         self.given = b""
         self.output, self.errors = [], []
         self.is_over = False

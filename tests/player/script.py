@@ -18,6 +18,7 @@ SETTINGS = {
     "short_reads": PEERS,
     "peer_short_reads": ("joined", "reverse"),
     "explained": ("lines",),
+    "comments": ("lines",),
 }
 
 # The words of before, which are read as well until the next version.
@@ -39,6 +40,7 @@ class Session:
     short_reads: str = ""
     peer_short_reads: str = ""
     explained: bool = False
+    comments: bool = False
     steps: list = field(default_factory=list)
 
     def take(self, number, line):
@@ -73,6 +75,10 @@ class Session:
     def set_explained(self, _text):
         """A line that is none says why."""
         self.explained = True
+
+    def set_comments(self, _text):
+        """Lines that say nothing are passed over; a line that is none says why, and what fails is status 4."""
+        self.comments = True
 
     def set_text(self, word, text):
         """A profile, or short reads, which are counted anew for each number."""

@@ -19,11 +19,11 @@ use Rattle.vhost_protocol.specs.ReplySplit.{Received, reply_split}
 use Rattle.vhost_protocol.specs.Reverse.{ReverseAsked, Backend, Refuses, Sends, sends_unless, reverse_understood, reverse_take}
 use Rattle.vhost_protocol.specs.Written.{Payload}
 use Rattle.vhost_link.specs.Law.{Event}
-use Rattle.vhost_endpoint.specs.Talk.{State}
-use Rattle.vhost_endpoint.specs.Asking.{request_with, is_known_by, Comes, Missing}
-use Rattle.vhost_endpoint.specs.Asking.Missing.{unfit, none, failed}
-use Rattle.vhost_endpoint.specs.Hearing.{HearsReply}
-use Rattle.vhost_endpoint.proofs.Replies.{replies-by}
+use Rattle.vhost_connection.specs.Talk.{State}
+use Rattle.vhost_connection.specs.Asking.{request_with, is_known_by, Comes, Missing}
+use Rattle.vhost_connection.specs.Asking.Missing.{unfit, none, failed}
+use Rattle.vhost_connection.specs.Hearing.{HearsReply}
+use Rattle.vhost_connection.proofs.Replies.{replies-by}
 use Rattle.vhost_backend_req.specs.Asking as asking
 use Rattle.vhost_backend_req.specs.Asking.{RecvsNumber, says_number, Takes, Asks, AsksFor}
 use Rattle.vhost_backend_req.specs.Channel.{Channel}

@@ -13,9 +13,9 @@ use Rattle.vhost_protocol.specs.IoError.{seen_io, seen_io_result}
 use Rattle.vhost_protocol.specs.Reverse.{ReverseCall, ReverseAsked, Refuses, Sends, reverse_ask, reverse_take}
 use Rattle.vhost_protocol.specs.Written.{Written}
 use Rattle.vhost_link.specs.Law.{Event}
-use Rattle.vhost_endpoint.specs.Talk.{State}
-use Rattle.vhost_endpoint.specs.Hearing.{HearsReply, Fails}
-use Rattle.vhost_endpoint.specs.Asking.{GoesOut}
+use Rattle.vhost_connection.specs.Talk.{State}
+use Rattle.vhost_connection.specs.Hearing.{HearsReply, Fails}
+use Rattle.vhost_connection.specs.Asking.{GoesOut}
 use Rattle.vhost_backend_req.specs.Channel.{Channel, backend_of}
 
 -- a reply came with a number and without a handle: 0, or another, which is a refusal

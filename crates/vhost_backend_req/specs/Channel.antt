@@ -1,8 +1,8 @@
 -- The channel from a device to its frontend, as contracts see it.
 use Rattle.std.specs.Prelude.{ℕ, ℤ, Bool, false, Option, None}
-use Rattle.vhost_endpoint.specs.State.{state, fresh}
-use Rattle.vhost_endpoint.specs.Talk.{State}
-use Rattle.vhost_endpoint.specs.declared.endpoint.Endpoint.{Endpoint}
+use Rattle.vhost_connection.specs.State.{state, fresh}
+use Rattle.vhost_connection.specs.Talk.{State}
+use Rattle.vhost_connection.specs.declared.endpoint.Endpoint.{Endpoint}
 use Rattle.vhost_message.specs.declared.header.VhostUserMsgHeader.{VhostUserMsgHeader}
 use Rattle.vhost_message.specs.declared.backend_req.BackendReq.{BackendReq}
 use Rattle.vhost_protocol.specs.Reverse as reverse

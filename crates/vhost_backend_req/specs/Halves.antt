@@ -15,9 +15,9 @@ use Rattle.vhost_protocol.specs.Reverse as reverse
 use Rattle.vhost_protocol.specs.Reverse.{ReverseAsked, Refuses, Sends, reverse_ask}
 use Rattle.vhost_protocol.specs.Written.{Written}
 use Rattle.vhost_link.specs.Law.{Event}
-use Rattle.vhost_endpoint.specs.Talk.{State}
-use Rattle.vhost_endpoint.specs.Hearing.{Fails}
-use Rattle.vhost_endpoint.specs.Asking.{GoesOut}
+use Rattle.vhost_connection.specs.Talk.{State}
+use Rattle.vhost_connection.specs.Hearing.{Fails}
+use Rattle.vhost_connection.specs.Asking.{GoesOut}
 use Rattle.vhost_backend_req.specs.Asking.{RecvsNumber}
 use Rattle.vhost_backend_req.specs.Channel.{Channel, backend_of}
 use Rattle.vhost_backend_req.specs.declared.call.ReverseCall as code

@@ -20,7 +20,7 @@ impl<L: Link> BackendInternal<L> {
     ghost use Rattle.vhost_backend_req.specs.Channel.{channel, backend_of};
     ghost use Rattle.vhost_backend_req.specs.Asking.{AsksCall, AsksFor, RecvsNumber};
     ghost use Rattle.vhost_backend_req.specs.Halves.{AsksHalfFor, TakesHalf};
-    ghost use Rattle.vhost_endpoint.specs.State.{state};
+    ghost use Rattle.vhost_connection.specs.State.{state};
     ghost use Rattle.std.specs.Prelude.{None, Some, Err};
     ghost use Rattle.vhost_message.specs.declared.io_error.IoError.TheVariants.{Of};
     ghost use Rattle.vhost_message.specs.declared.error.Error.TheVariants.{SocketBroken};

@@ -4,7 +4,7 @@ ghost use Rattle.std.specs.Prelude.{◌≡◌, Some, IfOk, IfErr};
 ghost use Rattle.vhost_message.specs.declared.error.Error.TheVariants.{OutOfMemory};
 
 use std::alloc::Global;
-use vhost_endpoint::Endpoint;
+use vhost_connection::Endpoint;
 use vhost_link::Link;
 use vhost_message::{BackendReq, Result, VhostUserMsgHeader};
 
@@ -28,8 +28,8 @@ impl<L: Link> BackendInternal<L> {
     ghost use Rattle.std.specs.Borrow.{sem, Lends};
     ghost use Rattle.vhost_backend_req.specs.Channel.{channel, opened, with_endpoint};
     ghost use Rattle.vhost_backend_req.specs.contracts.internal.BackendInternal.{the_row};
-    ghost use Rattle.vhost_endpoint.specs.State.{state};
-    ghost use Rattle.vhost_endpoint.specs.contracts.endpoint.Endpoint.{the_row as endpoint_row};
+    ghost use Rattle.vhost_connection.specs.State.{state};
+    ghost use Rattle.vhost_connection.specs.contracts.endpoint.Endpoint.{the_row as endpoint_row};
     ghost use Rattle.vhost_message.specs.contracts.backend_req.BackendReq.{the_row as code_row};
     ghost use Rattle.vhost_message.specs.contracts.header.VhostUserMsgHeader.{the_row as header_row};
 

@@ -8,8 +8,8 @@ use Rattle.vhost_protocol.specs.Split.{split}
 use Rattle.vhost_protocol.specs.Stream.{plain}
 use Rattle.vhost_link.specs.Ends.{Ends}
 use Rattle.vhost_link.specs.declared.plain.PlainHandle.{PlainHandle}
-use Rattle.vhost_endpoint.specs.Memory.{stream}
-use Rattle.vhost_endpoint.specs.Talk.{State}
+use Rattle.vhost_connection.specs.Memory.{stream}
+use Rattle.vhost_connection.specs.Talk.{State}
 use Rattle.vhost_frontend_req_handler.specs.Core.{number_cells}
 use Rattle.vhost_frontend_req_handler.specs.declared.call.FrontendSideCall.{FrontendSideCall}
 use Rattle.vhost_c_common.proofs.Wanting.{comes}

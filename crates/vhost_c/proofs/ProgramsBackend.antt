@@ -5,7 +5,7 @@ use Rattle.std.specs.Prelude.{Vec, ⊤, All, is_some, ok_or, ◌==◌, ◌||◌,
 use Rattle.vhost_message.specs.declared.error.Error as declared
 use Rattle.vhost_message.specs.declared.error.Error.TheVariants as code
 use Rattle.vhost_message.specs.declared.limits.TheConstants.{MSG_HEADER_SIZE}
-use Rattle.vhost_message.specs.declared.frontend_req.FrontendReq.{FrontendReq}
+use Rattle.vhost_message.specs.declared.heard_req.HeardReq.{HeardReq}
 use Rattle.vhost_message.specs.declared.records.shmem.VhostUserShMemConfig.{VhostUserShMemConfig}
 use Rattle.vhost_protocol.specs.Codes.{allows_handles}
 use Rattle.vhost_protocol.specs.Error.{Error, BackendInternalError, InvalidMessage, seen}
@@ -19,22 +19,22 @@ use Rattle.vhost_protocol.specs.declared.profile.Profile.{Profile}
 use Rattle.vhost_protocol.proofs.SettleLaws.{settled-answer}
 use Rattle.vhost_link.specs.Mem.{event}
 use Rattle.vhost_link.specs.declared.plain.PlainHandle.{PlainHandle}
-use Rattle.vhost_endpoint.specs.Memory.{TalksLaw, stream}
-use Rattle.vhost_endpoint.specs.Requests.{Reads}
-use Rattle.vhost_endpoint.specs.Serving.{Handled, Breaks, unread, unanswered}
-use Rattle.vhost_serving_core.specs.Beginning.{step_of}
-use Rattle.vhost_serving_core.specs.Concluding.{Beside, FollowsFrom, bases_in, bytes_in, device_in}
-use Rattle.vhost_serving_core.specs.Fits.{Makes}
-use Rattle.vhost_serving_core.specs.Session.{session_of}
-use Rattle.vhost_serving_core.specs.Settling.{Settles}
-use Rattle.vhost_serving_core.specs.declared.answer.DeviceAnswer.{DeviceAnswer}
-use Rattle.vhost_serving_core.specs.declared.answer.DeviceAnswer.TheVariants as device
-use Rattle.vhost_serving_core.specs.declared.call.DeviceCall.{DeviceCall}
-use Rattle.vhost_serving.specs.Calling.{beside}
-use Rattle.vhost_serving.specs.Core.{endpoint_of, session_in}
-use Rattle.vhost_serving.specs.Halves.{Prepares, uncalled, unopened}
-use Rattle.vhost_serving.specs.Serving.{fitting, kept_unsent}
-use Rattle.vhost_serving.specs.declared.service.Service.{Service}
+use Rattle.vhost_connection.specs.Memory.{TalksLaw, stream}
+use Rattle.vhost_connection.specs.Requests.{Reads}
+use Rattle.vhost_connection.specs.Serving.{Handled, Breaks, unread, unanswered}
+use Rattle.vhost_backend_req_handler_core.specs.Beginning.{step_of}
+use Rattle.vhost_backend_req_handler_core.specs.Concluding.{Beside, FollowsFrom, bases_in, bytes_in, device_in}
+use Rattle.vhost_backend_req_handler_core.specs.Fits.{Makes}
+use Rattle.vhost_backend_req_handler_core.specs.Session.{session_of}
+use Rattle.vhost_backend_req_handler_core.specs.Settling.{Settles}
+use Rattle.vhost_backend_req_handler_core.specs.declared.answer.DeviceAnswer.{DeviceAnswer}
+use Rattle.vhost_backend_req_handler_core.specs.declared.answer.DeviceAnswer.TheVariants as device
+use Rattle.vhost_backend_req_handler_core.specs.declared.call.DeviceCall.{DeviceCall}
+use Rattle.vhost_backend_req_handler.specs.Calling.{beside}
+use Rattle.vhost_backend_req_handler.specs.Core.{endpoint_of, session_in}
+use Rattle.vhost_backend_req_handler.specs.Halves.{Prepares, uncalled, unopened}
+use Rattle.vhost_backend_req_handler.specs.Serving.{fitting, kept_unsent}
+use Rattle.vhost_backend_req_handler.specs.declared.service.Service.{Service}
 use Rattle.vhost_c_common.proofs.Hearing.{hears-cut}
 use Rattle.vhost_c_common.proofs.Wanting.{is-uncut}
 use Rattle.vhost_c_common.proofs.Wants.{alike, served, troubled}
@@ -221,7 +221,7 @@ none-early e = none-unread e
 other : (n : ℕ) → is_harmless n ≡ true → n ≡ 16 → ⊥
 other n harmless is = cc (sym (ap is_harmless is) ∙ harmless)
 
-abbrev Met : Session → ⊤ → Message FrontendReq PlainHandle → Result ⊤ Error → List (Cell PlainHandle) → Session → ⊤ → Type 0
+abbrev Met : Session → ⊤ → Message HeardReq PlainHandle → Result ⊤ Error → List (Cell PlainHandle) → Session → ⊤ → Type 0
 Met = MeetsRow (fitting (uncalled Channel Display)) (unopened Channel Display) (unopened Channel Display)
 
 heard-number : (s s' : Session) (e : Error) (x : Result Request Error) (cells rest written : List (Cell PlainHandle)) → 12 ≤ length cells → split (heard_in s) allows_handles cells ≡ (x, rest)

@@ -23,8 +23,8 @@ use Rattle.vhost_protocol.specs.Written.{Payload}
 use Rattle.vhost_link.specs.Ends.{Ends}
 use Rattle.vhost_link.specs.Mem.{event}
 use Rattle.vhost_link.specs.declared.plain.PlainHandle.{PlainHandle}
-use Rattle.vhost_endpoint.specs.Hearing.{Fails}
-use Rattle.vhost_endpoint.specs.Memory.{stream}
+use Rattle.vhost_connection.specs.Hearing.{Fails}
+use Rattle.vhost_connection.specs.Memory.{stream}
 use Rattle.vhost_backend_req.specs.Channel as link
 use Rattle.vhost_backend_req.specs.Channel.{channel}
 use Rattle.vhost_backend_req.specs.Halves.{with_flag}

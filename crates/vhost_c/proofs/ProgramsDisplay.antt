@@ -23,7 +23,7 @@ use Rattle.vhost_protocol.specs.Stream.{Cell, has_some}
 use Rattle.vhost_link.specs.Ends.{Ends}
 use Rattle.vhost_link.specs.Mem.{event}
 use Rattle.vhost_link.specs.declared.plain.PlainHandle.{PlainHandle}
-use Rattle.vhost_endpoint.specs.Hearing.{Fails}
+use Rattle.vhost_connection.specs.Hearing.{Fails}
 use Rattle.vhost_gpu_backend_req.specs.Asking.{read_as}
 use Rattle.vhost_gpu_backend_req.specs.Channel as link
 use Rattle.vhost_gpu_backend_req.specs.Halves.{FrontUnsent, NotReady, not_ready, stopped, refused, no_memory as no_list, too_long}

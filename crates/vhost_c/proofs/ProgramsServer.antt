@@ -18,9 +18,9 @@ use Rattle.vhost_protocol.specs.Split.{Message, split}
 use Rattle.vhost_protocol.specs.Stream.{Cell}
 use Rattle.vhost_link.specs.Mem.{event}
 use Rattle.vhost_link.specs.declared.plain.PlainHandle.{PlainHandle}
-use Rattle.vhost_endpoint.specs.Memory.{TalksLaw, stream}
-use Rattle.vhost_endpoint.specs.Serving.{Handled, Breaks, unread, unanswered}
-use Rattle.vhost_endpoint.specs.declared.request.Request as request
+use Rattle.vhost_connection.specs.Memory.{TalksLaw, stream}
+use Rattle.vhost_connection.specs.Serving.{Handled, Breaks, unread, unanswered}
+use Rattle.vhost_connection.specs.declared.request.Request as request
 use Rattle.vhost_frontend_req_handler.specs.Core.{endpoint_of, server_in}
 use Rattle.vhost_frontend_req_handler.specs.Calling.{call_in}
 use Rattle.vhost_frontend_req_handler.specs.Halves.{uncalled}

@@ -18,10 +18,10 @@ use Rattle.vhost_link.specs.Law.{Refused, Move, Moved}
 use Rattle.vhost_link.specs.Mem.{event}
 use Rattle.vhost_link.specs.declared.cut.Cut.{Cut}
 use Rattle.vhost_link.specs.declared.plain.PlainHandle.{PlainHandle}
-use Rattle.vhost_endpoint.specs.Hearing as failing
-use Rattle.vhost_endpoint.specs.Hearing.{Fails}
-use Rattle.vhost_endpoint.specs.Requests.{Stops}
-use Rattle.vhost_endpoint.specs.Talk.{Fell, Trouble, was_broken, no_memory, fault, has_moved}
+use Rattle.vhost_connection.specs.Hearing as failing
+use Rattle.vhost_connection.specs.Hearing.{Fails}
+use Rattle.vhost_connection.specs.Requests.{Stops}
+use Rattle.vhost_connection.specs.Talk.{Fell, Trouble, was_broken, no_memory, fault, has_moved}
 use Rattle.vhost_c_common.specs.Incoming.{Adds}
 use Rattle.vhost_c_common.specs.Moving.{TakesIn}
 use Rattle.vhost_c_common.specs.Number.{number, error_number}

@@ -11,12 +11,12 @@ use Rattle.vhost_protocol.specs.Session.{Session}
 use Rattle.vhost_protocol.specs.Step.{Outcome, Step, replied, replied_or_silent}
 use Rattle.vhost_protocol.specs.Written.{ConfigBytes, RingState, Shmem, U64}
 use Rattle.vhost_link.specs.declared.plain.PlainHandle.{PlainHandle}
-use Rattle.vhost_serving_core.specs.Beginning.{if_some, single, step_of}
-use Rattle.vhost_serving_core.specs.Concluding.{Beside, FollowsFrom, bytes_in, handle_in, inflight_in, number_in, ring_state_in, shmem_in, state_handle_in}
-use Rattle.vhost_serving_core.specs.Fits.{Makes}
-use Rattle.vhost_serving_core.specs.declared.answer.DeviceAnswer.{DeviceAnswer}
-use Rattle.vhost_serving_core.specs.declared.call.DeviceCall.{DeviceCall}
-use Rattle.vhost_serving_core.specs.declared.call.DeviceCall.TheVariants as call
+use Rattle.vhost_backend_req_handler_core.specs.Beginning.{if_some, single, step_of}
+use Rattle.vhost_backend_req_handler_core.specs.Concluding.{Beside, FollowsFrom, bytes_in, handle_in, inflight_in, number_in, ring_state_in, shmem_in, state_handle_in}
+use Rattle.vhost_backend_req_handler_core.specs.Fits.{Makes}
+use Rattle.vhost_backend_req_handler_core.specs.declared.answer.DeviceAnswer.{DeviceAnswer}
+use Rattle.vhost_backend_req_handler_core.specs.declared.call.DeviceCall.{DeviceCall}
+use Rattle.vhost_backend_req_handler_core.specs.declared.call.DeviceCall.TheVariants as call
 use Rattle.vhost_c_common.specs.declared.records.Inflight.{Inflight}
 use Rattle.vhost_c_backend.specs.Replies.{Gives, GivesShmem, form_in}
 use Rattle.vhost_c_backend.specs.Serving.{Channel, Display, Request}

@@ -8,12 +8,11 @@ use Rattle.vhost_message.specs.declared.records.config.VhostUserConfig.{VhostUse
 use Rattle.vhost_message.specs.declared.records.inflight.VhostUserInflight.{VhostUserInflight}
 use Rattle.vhost_message.specs.Bits.{has_bit}
 use Rattle.vhost_message.specs.Header.{Header, header_of}
-use Rattle.vhost_message.specs.Valid.{is_valid_inflight, is_valid_log}
 use Rattle.vhost_message.specs.Records.{u64_at}
-use Rattle.vhost_protocol.specs.AnswerTable.{Answered, answered, alone, with_one, one_or_none, only_if, config_reply, state_reply, inflight_reply, end_reply, changed, from_reply, answer, are_same_ranges, is_same_range}
-use Rattle.vhost_protocol.specs.Ask.{config, regions_in}
+use Rattle.vhost_protocol.specs.AnswerTable.{Answered, answered, alone, with_one, one_or_none, only_if, config_reply, state_reply, inflight_reply, end_reply, changed, from_reply, answer}
+use Rattle.vhost_protocol.specs.Ask.{config}
 use Rattle.vhost_protocol.specs.Error.{Error, InvalidParam, InvalidMessage, PartialMessage, IncorrectFds, BackendInternalError, seen}
-use Rattle.vhost_protocol.specs.FrontendCall.{FrontendCall, GetFeatures, GetProtocolFeatures, GetQueueNum, SetMemTable, SetLogBase, GetVringBase, GetConfig, GetSharedObject, GetInflightFd, GetMaxMemSlots, AddMemRegion, GetShmemConfig, SetDeviceStateFd, CheckDeviceState, PostcopyAdvise, PostcopyEnd, Value, Nothing, Number, ConfigOf, HandleOf, InflightOf, StateHandle, Frontend}
+use Rattle.vhost_protocol.specs.FrontendCall.{FrontendCall, GetQueueNum, GetConfig, Value, Nothing, Number, ConfigOf, InflightOf, StateHandle, Frontend}
 use Rattle.vhost_protocol.specs.Profile.{is_standard}
 use Rattle.vhost_protocol.specs.ReplySplit.{Received, received, reply_split, bare_or_reply, not_bare, is_bare_reply, whole_split, has_size, has_config_size, is_right, apart, parted, then_made, is_empty_reply, parted_or_none}
 use Rattle.vhost_protocol.specs.Served.{Acknowledged}
@@ -21,7 +20,7 @@ use Rattle.vhost_protocol.specs.Session.{is_listen}
 use Rattle.vhost_protocol.specs.Split.{Splits}
 use Rattle.vhost_protocol.specs.Stream.{Cell, first_handles, bytes, is_shorter}
 use Rattle.vhost_protocol.specs.Take.{is_known, answers, is_sized, is_valid_record, record_size, payload_of, room, reply_cut, config_cut, understood, understood_ack, understood_config, take, take_reply, take_config}
-use Rattle.vhost_protocol.specs.Written.{Payload, Empty, U64, Regions, OneRegion, Shmem, RingState, ConfigBytes, InflightArea, LogArea}
+use Rattle.vhost_protocol.specs.Written.{Payload, Empty, U64, ConfigBytes}
 use Rattle.vhost_protocol.specs.declared.asked.Awaited.{Awaited}
 use Rattle.vhost_protocol.specs.declared.asked.Awaited.TheVariants.{Nobody, Ack, Reply}
 use Rattle.vhost_protocol.specs.declared.asked.Shape.{Shape}
@@ -115,24 +114,13 @@ module _ {H : Type 0} where
   area-fine true r n = n
   area-fine false r n = refl
 
+  ruleset replies = (alone-fine, only-fine, perhaps-fine, inflight-fine, changed-fine, state-fine, end-fine, area-fine)
+
   reply-fine : (call : FrontendCall H) (f : Frontend) (payload : Payload) (hs : List H) → SomeFine (from_reply call f payload hs)
-  reply-fine GetFeatures f (U64 n) hs = changed-fine f _ _ (alone-fine hs _ tt)
-  reply-fine GetProtocolFeatures f (U64 n) hs = alone-fine hs _ tt
-  reply-fine GetQueueNum f (U64 n) hs = queues-fine f n hs (nat_le n VHOST_USER_MAX_VRINGS)
-  reply-fine (SetMemTable infos) f (Regions rs) hs = alone-fine hs _ (only-fine (are_same_ranges (regions_in infos) rs) InvalidMessage _ refl)
-  reply-fine (SetLogBase base region) f (LogArea l) hs = alone-fine hs _ (only-fine (if is_standard f.profile then true else is_valid_log l) InvalidMessage _ refl)
-  reply-fine (GetVringBase i) f (RingState v) hs = alone-fine hs _ tt
   reply-fine (GetConfig offset size flags buffer) f (ConfigBytes c bs) hs = config-fine (config offset size flags) buffer hs c bs
-  reply-fine (GetSharedObject name) f Empty hs = perhaps-fine f hs HandleOf
-  reply-fine (GetInflightFd asked) f (InflightArea i) hs = area-fine (is_valid_inflight i) _ (inflight-fine f i hs)
-  reply-fine GetMaxMemSlots f (U64 n) hs = alone-fine hs _ tt
-  reply-fine (AddMemRegion info) f (OneRegion r) hs = alone-fine hs _ (only-fine (is_same_range info.region r.region) InvalidMessage _ refl)
-  reply-fine GetShmemConfig f (Shmem c) hs = alone-fine hs _ tt
-  reply-fine (SetDeviceStateFd t h) f (U64 n) hs = state-fine n hs
-  reply-fine CheckDeviceState f (U64 n) hs = alone-fine hs _ (only-fine (n == 0) BackendInternalError _ refl)
-  reply-fine PostcopyAdvise f Empty hs = changed-fine f _ _ (perhaps-fine f hs HandleOf)
-  reply-fine PostcopyEnd f (U64 n) hs = end-fine f n hs
-  reply-fine _ f payload hs = tt
+  reply-fine GetQueueNum f (U64 n) hs = queues-fine f n hs (nat_le n VHOST_USER_MAX_VRINGS)
+  reply-fine _ f Empty hs = search replies
+  reply-fine _ f payload hs = search replies
 
   -- ---- what was received
 

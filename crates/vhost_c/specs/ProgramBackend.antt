@@ -2,7 +2,7 @@
 use Rattle.std.specs.Borrow.{Bor}
 use Rattle.std.specs.Prelude.{◌≡◌, ◌≢◌, ℕ, Bool, true, false, not, ◌||◌, ◌==◌, List, [], ◌∷◌, Option, Some, None, ⊤}
 use Rattle.vhost_message.specs.declared.error.Error.TheVariants.{InvalidParam, InvalidMessage, Disconnected, PartialMessage, IncorrectFds, BackendInternalError, FrontendInternalError, OutOfMemory}
-use Rattle.vhost_serving.specs.Core.{endpoint_of}
+use Rattle.vhost_backend_req_handler.specs.Core.{endpoint_of}
 use Rattle.vhost_c_common.specs.ByNumber.{By}
 use Rattle.vhost_c_common.specs.Number.{number, error_number}
 use Rattle.vhost_c_common.specs.Profile.{profile_at}

@@ -1,5 +1,6 @@
 //! The answer that was decoded last is read, by its form.
 
+ghost use Rattle.std.specs.Prelude.{◌≡◌, ◌≢◌, IfErr};
 ghost use Rattle.vhost_c.specs.Answers.{Puts, ReadsNumber, ReadsBases, ReadsConfig, ReadsFd, ReadsInflight, ReadsShmem};
 ghost use Rattle.vhost_c_common.specs.ByNumber.{By};
 ghost use Rattle.vhost_c_frontend.specs.Session.{Reading};
@@ -18,7 +19,8 @@ pub extern "C" fn covretin_answer_number(
     session: &mut Holder,
     number: &mut u64,
 ) -> u32
-    ensures { By (Reading (ReadsNumber number.new)) session.old.session result session.new.session }
+    ensures does { By (Reading (ReadsNumber number.new)) session.old.session result session.new.session }
+    ensures untouched { result ≢ 0 → number.new ≡ number.old }
 {
     match session.take(alloc) {
         None => number_of(Err(Refusal::NoSession)),
@@ -38,7 +40,8 @@ pub extern "C" fn covretin_answer_bases(
     bases: &mut [u64],
     count: &mut usize,
 ) -> u32
-    ensures { By (Reading (ReadsBases bases.old bases.new count.new)) session.old.session result session.new.session }
+    ensures does { By (Reading (ReadsBases bases.old bases.new count.new)) session.old.session result session.new.session }
+    ensures untouched { result ≢ 0 → (bases.new ≡ bases.old) × (count.new ≡ count.old) }
 {
     match session.take(alloc) {
         None => number_of(Err(Refusal::NoSession)),
@@ -59,7 +62,8 @@ pub extern "C" fn covretin_answer_config(
     bytes: &mut [u8],
     count: &mut usize,
 ) -> u32
-    ensures { By (Reading (ReadsConfig config.new bytes.old bytes.new count.new)) session.old.session result session.new.session }
+    ensures does { By (Reading (ReadsConfig config.new bytes.old bytes.new count.new)) session.old.session result session.new.session }
+    ensures untouched { result ≢ 0 → (config.new ≡ config.old) × (bytes.new ≡ bytes.old) × (count.new ≡ count.old) }
 {
     match session.take(alloc) {
         None => number_of(Err(Refusal::NoSession)),
@@ -74,7 +78,8 @@ pub extern "C" fn covretin_answer_config(
 /// Reads a file descriptor; -1 is none, where the call may do without.
 #[unsafe(no_mangle)]
 pub extern "C" fn covretin_answer_fd(alloc: Global, session: &mut Holder, fd: &mut i32) -> u32
-    ensures { By (Reading (ReadsFd fd.new)) session.old.session result session.new.session }
+    ensures does { By (Reading (ReadsFd fd.new)) session.old.session result session.new.session }
+    ensures untouched { result ≢ 0 → fd.new ≡ fd.old }
 {
     match session.take(alloc) {
         None => number_of(Err(Refusal::NoSession)),
@@ -94,7 +99,8 @@ pub extern "C" fn covretin_answer_inflight(
     inflight: &mut Inflight,
     fd: &mut i32,
 ) -> u32
-    ensures { By (Reading (ReadsInflight inflight.new fd.new)) session.old.session result session.new.session }
+    ensures does { By (Reading (ReadsInflight inflight.new fd.new)) session.old.session result session.new.session }
+    ensures untouched { result ≢ 0 → (inflight.new ≡ inflight.old) × (fd.new ≡ fd.old) }
 {
     match session.take(alloc) {
         None => number_of(Err(Refusal::NoSession)),
@@ -114,7 +120,8 @@ pub extern "C" fn covretin_answer_shmem(
     sizes: &mut [u64],
     count: &mut usize,
 ) -> u32
-    ensures { By (Reading (ReadsShmem sizes.old sizes.new count.new)) session.old.session result session.new.session }
+    ensures does { By (Reading (ReadsShmem sizes.old sizes.new count.new)) session.old.session result session.new.session }
+    ensures untouched { result ≢ 0 → (sizes.new ≡ sizes.old) × (count.new ≡ count.old) }
 {
     match session.take(alloc) {
         None => number_of(Err(Refusal::NoSession)),
@@ -127,7 +134,8 @@ pub extern "C" fn covretin_answer_shmem(
 }
 
 fn read_number(answer: &FrontendAnswer, number: &mut u64) -> Outcome
-    ensures { ReadsNumber number.new answer.now result }
+    ensures reads { ReadsNumber number.new answer.now result }
+    ensures untouched { IfErr result (λ _. number.new ≡ number.old) }
 {
     match answer {
         FrontendAnswer::Number(value) => {
@@ -139,7 +147,8 @@ fn read_number(answer: &FrontendAnswer, number: &mut u64) -> Outcome
 }
 
 fn read_bases(answer: &FrontendAnswer, places: &mut [u64], count: &mut usize) -> Outcome
-    ensures { ReadsBases places.old places.new count.new answer.now result }
+    ensures reads { ReadsBases places.old places.new count.new answer.now result }
+    ensures untouched { IfErr result (λ _. (places.new ≡ places.old) × (count.new ≡ count.old)) }
 {
     match answer {
         FrontendAnswer::Bases(Some(bases)) => put(bases, places, count),
@@ -155,7 +164,8 @@ fn read_config(
     room: &mut [u8],
     count: &mut usize,
 ) -> Outcome
-    ensures { ReadsConfig place.new room.old room.new count.new answer.now result }
+    ensures reads { ReadsConfig place.new room.old room.new count.new answer.now result }
+    ensures untouched { IfErr result (λ _. (place.new ≡ place.old) × (room.new ≡ room.old) × (count.new ≡ count.old)) }
 {
     match answer {
         FrontendAnswer::Config(part, bytes) => {
@@ -172,7 +182,8 @@ fn read_config(
 }
 
 fn read_fd(answer: &FrontendAnswer, fd: &mut i32) -> Outcome
-    ensures { ReadsFd fd.new answer.now result }
+    ensures reads { ReadsFd fd.new answer.now result }
+    ensures untouched { IfErr result (λ _. fd.new ≡ fd.old) }
 {
     match answer {
         FrontendAnswer::Handle(handle) | FrontendAnswer::StateHandle(Some(handle)) => {
@@ -188,7 +199,8 @@ fn read_fd(answer: &FrontendAnswer, fd: &mut i32) -> Outcome
 }
 
 fn read_inflight(answer: &FrontendAnswer, place: &mut Inflight, fd: &mut i32) -> Outcome
-    ensures { ReadsInflight place.new fd.new answer.now result }
+    ensures reads { ReadsInflight place.new fd.new answer.now result }
+    ensures untouched { IfErr result (λ _. (place.new ≡ place.old) × (fd.new ≡ fd.old)) }
 {
     match answer {
         FrontendAnswer::Inflight(data, handle) => {
@@ -201,7 +213,8 @@ fn read_inflight(answer: &FrontendAnswer, place: &mut Inflight, fd: &mut i32) ->
 }
 
 fn read_shmem(answer: &FrontendAnswer, sizes: &mut [u64], count: &mut usize) -> Outcome
-    ensures { ReadsShmem sizes.old sizes.new count.new answer.now result }
+    ensures reads { ReadsShmem sizes.old sizes.new count.new answer.now result }
+    ensures untouched { IfErr result (λ _. (sizes.new ≡ sizes.old) × (count.new ≡ count.old)) }
 {
     match answer {
         FrontendAnswer::ShmemConfig(config) => {
@@ -215,9 +228,10 @@ fn read_shmem(answer: &FrontendAnswer, sizes: &mut [u64], count: &mut usize) -> 
 
 /// Copies a list to the start of a buffer; `count` is how long it is.
 ///
-/// NoRoom: the buffer is too small, and nothing changed.
+/// NoRoom: the buffer is too small.
 fn put<T: Copy>(list: &[T], place: &mut [T], count: &mut usize) -> Outcome
-    ensures { Puts list.now place.old place.new count.new result }
+    ensures puts { Puts list.now place.old place.new count.new result }
+    ensures untouched { IfErr result (λ _. (place.new ≡ place.old) × (count.new ≡ count.old)) }
 {
     if list.len() > place.len() {
         return Err(Refusal::NoRoom);

@@ -8,7 +8,7 @@ ghost use Rattle.vhost_frontend_core.specs.Values.{call_of};
 ghost use Rattle.vhost_c_common.specs.Records.{vring_in, inflight_in};
 ghost use Rattle.vhost_c.specs.Records.{info_in};
 ghost use Rattle.vhost_c_frontend.specs.Session.{AsksBy, AsksAllowed, AsksNamed, AsksUnless, RejectsBy, is_header_flag};
-ghost use Rattle.vhost_message.specs.FrontendReq.{request_at};
+ghost use Rattle.vhost_message.specs.HeardReq.{request_at};
 
 use crate::holder::Holder;
 use crate::regions::{info_of, infos_of};
@@ -18,7 +18,7 @@ use uuid::Uuid;
 use vhost_c_common::{Inflight, Refusal, Region, Vring, number_of};
 use vhost_frontend_core::FrontendCall;
 use vhost_message::{
-    Error, FrontendReq, MAX_MSG_SIZE, VhostUserConfigFlags, VhostUserHeaderFlag,
+    Error, HeardReq, MAX_MSG_SIZE, VhostUserConfigFlags, VhostUserHeaderFlag,
     VhostUserProtocolFeatures, VhostUserSharedMsg,
 };
 
@@ -433,7 +433,7 @@ pub extern "C" fn covretin_ask_postcopy_ack_mem_regions(
 ) -> u32
     ensures { AsksNamed (request_at request) (λ code. AsksBy (calls.PostcopyAckMemRegions code)) session.old.session result session.new.session }
 {
-    match FrontendReq::try_from(request) {
+    match HeardReq::try_from(request) {
         Ok(code) => asked(alloc, session, FrontendCall::PostcopyAckMemRegions(code)),
         Err(()) => rejected(alloc, session, Error::InvalidParam),
     }

@@ -1,5 +1,6 @@
 //! The arguments of the call that is to be replied to, by its form.
 
+ghost use Rattle.std.specs.Prelude.{◌≡◌, ◌≢◌};
 ghost use Rattle.vhost_c_common.specs.ByNumber.{By};
 ghost use Rattle.vhost_c_backend.specs.Arguments.{number_arg, ring_arg, vring_arg, ring_fd_arg, fd_arg, inflight_arg, transfer_arg, log_arg, PutsRegions, PutsConfig, PutsName, PutsOther, PutsFds};
 ghost use Rattle.vhost_c_backend.specs.Serving.{Telling, Putting};
@@ -15,7 +16,8 @@ pub extern "C" fn covretin_call_number(
     backend: &mut BackendHolder,
     number: &mut u64,
 ) -> u32
-    ensures { By (Telling (λ hs c. number_arg c) number.new) backend.old.session result backend.new.session }
+    ensures does { By (Telling (λ hs c. number_arg c) number.new) backend.old.session result backend.new.session }
+    ensures untouched { result ≢ 0 → number.new ≡ number.old }
 {
     match backend.take(alloc) {
         None => number_of(Err(Refusal::NoSession)),
@@ -41,7 +43,8 @@ pub extern "C" fn covretin_call_ring(
     index: &mut u32,
     number: &mut u32,
 ) -> u32
-    ensures { By (Telling (λ hs c. ring_arg c) (index.new, number.new)) backend.old.session result backend.new.session }
+    ensures does { By (Telling (λ hs c. ring_arg c) (index.new, number.new)) backend.old.session result backend.new.session }
+    ensures untouched { result ≢ 0 → (index.new ≡ index.old) × (number.new ≡ number.old) }
 {
     match backend.take(alloc) {
         None => number_of(Err(Refusal::NoSession)),
@@ -68,7 +71,8 @@ pub extern "C" fn covretin_call_vring(
     index: &mut u32,
     ring: &mut Vring,
 ) -> u32
-    ensures { By (Telling (λ hs c. vring_arg c) (index.new, ring.new)) backend.old.session result backend.new.session }
+    ensures does { By (Telling (λ hs c. vring_arg c) (index.new, ring.new)) backend.old.session result backend.new.session }
+    ensures untouched { result ≢ 0 → (index.new ≡ index.old) × (ring.new ≡ ring.old) }
 {
     match backend.take(alloc) {
         None => number_of(Err(Refusal::NoSession)),
@@ -95,7 +99,8 @@ pub extern "C" fn covretin_call_ring_fd(
     index: &mut u32,
     fd: &mut i32,
 ) -> u32
-    ensures { By (Telling ring_fd_arg (index.new, fd.new)) backend.old.session result backend.new.session }
+    ensures does { By (Telling ring_fd_arg (index.new, fd.new)) backend.old.session result backend.new.session }
+    ensures untouched { result ≢ 0 → (index.new ≡ index.old) × (fd.new ≡ fd.old) }
 {
     match backend.take(alloc) {
         None => number_of(Err(Refusal::NoSession)),
@@ -123,7 +128,8 @@ pub extern "C" fn covretin_call_regions(
     count: &mut usize,
     listening: &mut bool,
 ) -> u32
-    ensures { By (Putting PutsRegions regions.old regions.new (count.new, listening.new)) backend.old.session result backend.new.session }
+    ensures does { By (Putting PutsRegions regions.old regions.new (count.new, listening.new)) backend.old.session result backend.new.session }
+    ensures untouched { result ≢ 0 → (regions.new ≡ regions.old) × (count.new ≡ count.old) × (listening.new ≡ listening.old) }
 {
     match backend.take(alloc) {
         None => number_of(Err(Refusal::NoSession)),
@@ -151,7 +157,8 @@ pub extern "C" fn covretin_call_config(
     bytes: &mut [u8],
     count: &mut usize,
 ) -> u32
-    ensures { By (Putting (λ hs c. PutsConfig c) bytes.old bytes.new (count.new, config.new)) backend.old.session result backend.new.session }
+    ensures does { By (Putting (λ hs c. PutsConfig c) bytes.old bytes.new (count.new, config.new)) backend.old.session result backend.new.session }
+    ensures untouched { result ≢ 0 → (config.new ≡ config.old) × (bytes.new ≡ bytes.old) × (count.new ≡ count.old) }
 {
     match backend.take(alloc) {
         None => number_of(Err(Refusal::NoSession)),
@@ -173,7 +180,8 @@ pub extern "C" fn covretin_call_config(
 /// Reads the file descriptor of a socket.
 #[unsafe(no_mangle)]
 pub extern "C" fn covretin_call_fd(alloc: Global, backend: &mut BackendHolder, fd: &mut i32) -> u32
-    ensures { By (Telling fd_arg fd.new) backend.old.session result backend.new.session }
+    ensures does { By (Telling fd_arg fd.new) backend.old.session result backend.new.session }
+    ensures untouched { result ≢ 0 → fd.new ≡ fd.old }
 {
     match backend.take(alloc) {
         None => number_of(Err(Refusal::NoSession)),
@@ -198,7 +206,8 @@ pub extern "C" fn covretin_call_name(
     backend: &mut BackendHolder,
     name: &mut [u8],
 ) -> u32
-    ensures { By (Putting (λ hs c. PutsName c) name.old name.new tt) backend.old.session result backend.new.session }
+    ensures does { By (Putting (λ hs c. PutsName c) name.old name.new tt) backend.old.session result backend.new.session }
+    ensures untouched { result ≢ 0 → name.new ≡ name.old }
 {
     match backend.take(alloc) {
         None => number_of(Err(Refusal::NoSession)),
@@ -221,7 +230,8 @@ pub extern "C" fn covretin_call_inflight(
     inflight: &mut Inflight,
     fd: &mut i32,
 ) -> u32
-    ensures { By (Telling inflight_arg (inflight.new, fd.new)) backend.old.session result backend.new.session }
+    ensures does { By (Telling inflight_arg (inflight.new, fd.new)) backend.old.session result backend.new.session }
+    ensures untouched { result ≢ 0 → (inflight.new ≡ inflight.old) × (fd.new ≡ fd.old) }
 {
     match backend.take(alloc) {
         None => number_of(Err(Refusal::NoSession)),
@@ -249,7 +259,8 @@ pub extern "C" fn covretin_call_transfer(
     phase: &mut u32,
     fd: &mut i32,
 ) -> u32
-    ensures { By (Telling transfer_arg (direction.new, phase.new, fd.new)) backend.old.session result backend.new.session }
+    ensures does { By (Telling transfer_arg (direction.new, phase.new, fd.new)) backend.old.session result backend.new.session }
+    ensures untouched { result ≢ 0 → (direction.new ≡ direction.old) × (phase.new ≡ phase.old) × (fd.new ≡ fd.old) }
 {
     match backend.take(alloc) {
         None => number_of(Err(Refusal::NoSession)),
@@ -276,7 +287,8 @@ pub extern "C" fn covretin_call_log(
     backend: &mut BackendHolder,
     log: &mut Region,
 ) -> u32
-    ensures { By (Telling log_arg log.new) backend.old.session result backend.new.session }
+    ensures does { By (Telling log_arg log.new) backend.old.session result backend.new.session }
+    ensures untouched { result ≢ 0 → log.new ≡ log.old }
 {
     match backend.take(alloc) {
         None => number_of(Err(Refusal::NoSession)),
@@ -303,7 +315,8 @@ pub extern "C" fn covretin_call_other(
     bytes: &mut [u8],
     count: &mut usize,
 ) -> u32
-    ensures { By (Putting (λ hs c. PutsOther c) bytes.old bytes.new (count.new, request.new)) backend.old.session result backend.new.session }
+    ensures does { By (Putting (λ hs c. PutsOther c) bytes.old bytes.new (count.new, request.new)) backend.old.session result backend.new.session }
+    ensures untouched { result ≢ 0 → (request.new ≡ request.old) × (bytes.new ≡ bytes.old) × (count.new ≡ count.old) }
 {
     match backend.take(alloc) {
         None => number_of(Err(Refusal::NoSession)),
@@ -330,7 +343,8 @@ pub extern "C" fn covretin_call_fds(
     fds: &mut [i32],
     count: &mut usize,
 ) -> u32
-    ensures { By (Putting PutsFds fds.old fds.new (count.new, tt)) backend.old.session result backend.new.session }
+    ensures does { By (Putting PutsFds fds.old fds.new (count.new, tt)) backend.old.session result backend.new.session }
+    ensures untouched { result ≢ 0 → (fds.new ≡ fds.old) × (count.new ≡ count.old) }
 {
     match backend.take(alloc) {
         None => number_of(Err(Refusal::NoSession)),

@@ -1,5 +1,6 @@
 //! Which descriptors of a backend's session are whose.
 
+ghost use Rattle.std.specs.Prelude.{◌≡◌, ◌≢◌};
 ghost use Rattle.vhost_c_common.specs.ByNumber.{By};
 ghost use Rattle.vhost_c_backend.specs.Served.{Abandoning, Claiming, LettingGo};
 
@@ -30,7 +31,8 @@ pub extern "C" fn covretin_backend_unclaimed(
     fds: &mut [i32],
     count: &mut usize,
 ) -> u32
-    ensures { By (LettingGo fds.old count.new fds.new) backend.old.session result backend.new.session }
+    ensures does { By (LettingGo fds.old count.new fds.new) backend.old.session result backend.new.session }
+    ensures untouched { result ≢ 0 → (fds.new ≡ fds.old) × (count.new ≡ count.old) }
 {
     match backend.take(alloc) {
         None => number_of(Err(Refusal::NoSession)),

@@ -1,6 +1,6 @@
 //! What came for a backend's session is received and read, and what it replies goes out.
 
-ghost use Rattle.std.specs.Prelude.{◌≡◌};
+ghost use Rattle.std.specs.Prelude.{◌≡◌, ◌≢◌};
 ghost use Rattle.vhost_c_common.specs.ByNumber.{By};
 ghost use Rattle.vhost_c_backend.specs.Served.{Sending, Receiving, Getting, Ending};
 ghost use Rattle.vhost_c_backend.specs.Serving.{Beginning};
@@ -72,6 +72,7 @@ pub extern "C" fn covretin_backend_to_send(
 ) -> u32
     ensures sent { By (Sending bytes.new fds.new (byte_count.new, fd_count.new)) backend.old.session result backend.new.session }
     ensures held { By (λ s o s'. s'.held ≡ s.held) backend.old.session result backend.new.session }
+    ensures untouched { result ≢ 0 → (bytes.new ≡ bytes.old) × (fds.new ≡ fds.old) × (byte_count.new ≡ byte_count.old) × (fd_count.new ≡ fd_count.old) }
 {
     match backend.take(alloc) {
         None => number_of(Err(Refusal::NoSession)),
@@ -97,7 +98,8 @@ pub extern "C" fn covretin_backend_next(
     backend: &mut BackendHolder,
     call: &mut u32,
 ) -> u32
-    ensures { By (Beginning call.new) backend.old.session result backend.new.session }
+    ensures does { By (Beginning call.new) backend.old.session result backend.new.session }
+    ensures untouched { result ≢ 0 → call.new ≡ call.old }
 {
     match backend.take(alloc) {
         None => number_of(Err(Refusal::NoSession)),

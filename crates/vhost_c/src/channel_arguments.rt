@@ -1,5 +1,6 @@
 //! The arguments of the call of a device that is to be replied to, by its form.
 
+ghost use Rattle.std.specs.Prelude.{◌≡◌, ◌≢◌};
 ghost use Rattle.vhost_c_common.specs.ByNumber.{By};
 ghost use Rattle.vhost_c_channel.specs.Arguments.{mmap_arg, fd_arg};
 ghost use Rattle.vhost_c_channel.specs.Serving.{Telling, Putting};
@@ -16,7 +17,8 @@ pub extern "C" fn covretin_channel_call_name(
     server: &mut ChannelServerHolder,
     name: &mut [u8],
 ) -> u32
-    ensures { By (Putting name.old name.new) server.old.session result server.new.session }
+    ensures does { By (Putting name.old name.new) server.old.session result server.new.session }
+    ensures untouched { result ≢ 0 → name.new ≡ name.old }
 {
     match server.take(alloc) {
         None => number_of(Err(Refusal::NoSession)),
@@ -35,7 +37,8 @@ pub extern "C" fn covretin_channel_call_mmap(
     server: &mut ChannelServerHolder,
     mmap: &mut Mmap,
 ) -> u32
-    ensures { By (Telling mmap_arg mmap.new) server.old.session result server.new.session }
+    ensures does { By (Telling mmap_arg mmap.new) server.old.session result server.new.session }
+    ensures untouched { result ≢ 0 → mmap.new ≡ mmap.old }
 {
     match server.take(alloc) {
         None => number_of(Err(Refusal::NoSession)),
@@ -60,7 +63,8 @@ pub extern "C" fn covretin_channel_call_fd(
     server: &mut ChannelServerHolder,
     fd: &mut i32,
 ) -> u32
-    ensures { By (Telling fd_arg fd.new) server.old.session result server.new.session }
+    ensures does { By (Telling fd_arg fd.new) server.old.session result server.new.session }
+    ensures untouched { result ≢ 0 → fd.new ≡ fd.old }
 {
     match server.take(alloc) {
         None => number_of(Err(Refusal::NoSession)),

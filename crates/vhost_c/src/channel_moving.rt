@@ -1,6 +1,6 @@
 //! What a device's session of the backend channel sends goes out, and what came for it is received and taken.
 
-ghost use Rattle.std.specs.Prelude.{◌≡◌};
+ghost use Rattle.std.specs.Prelude.{◌≡◌, ◌≢◌};
 ghost use Rattle.vhost_c_common.specs.ByNumber.{By};
 ghost use Rattle.vhost_c_channel.specs.Asking.{Sending, Receiving, Getting, LettingGo, Takes};
 ghost use Rattle.vhost_c.specs.Channel.{missing_at};
@@ -21,6 +21,7 @@ pub extern "C" fn covretin_channel_to_send(
 ) -> u32
     ensures sent { By (Sending bytes.new fds.new (byte_count.new, fd_count.new)) channel.old.session result channel.new.session }
     ensures held { By (λ s o s'. s'.held ≡ s.held) channel.old.session result channel.new.session }
+    ensures untouched { result ≢ 0 → (bytes.new ≡ bytes.old) × (fds.new ≡ fds.old) × (byte_count.new ≡ byte_count.old) × (fd_count.new ≡ fd_count.old) }
 {
     match channel.take(alloc) {
         None => number_of(Err(Refusal::NoSession)),
@@ -97,7 +98,8 @@ pub extern "C" fn covretin_channel_unclaimed(
     fds: &mut [i32],
     count: &mut usize,
 ) -> u32
-    ensures { By (LettingGo fds.old count.new fds.new) channel.old.session result channel.new.session }
+    ensures does { By (LettingGo fds.old count.new fds.new) channel.old.session result channel.new.session }
+    ensures untouched { result ≢ 0 → (fds.new ≡ fds.old) × (count.new ≡ count.old) }
 {
     match channel.take(alloc) {
         None => number_of(Err(Refusal::NoSession)),

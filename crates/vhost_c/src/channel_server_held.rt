@@ -1,5 +1,6 @@
 //! Which descriptors of a frontend's session of the backend channel are whose.
 
+ghost use Rattle.std.specs.Prelude.{◌≡◌, ◌≢◌};
 ghost use Rattle.vhost_c_common.specs.ByNumber.{By};
 ghost use Rattle.vhost_c_channel.specs.Serving.{Abandoning, Claiming, LettingGo};
 
@@ -34,7 +35,8 @@ pub extern "C" fn covretin_channel_server_unclaimed(
     fds: &mut [i32],
     count: &mut usize,
 ) -> u32
-    ensures { By (LettingGo fds.old count.new fds.new) server.old.session result server.new.session }
+    ensures does { By (LettingGo fds.old count.new fds.new) server.old.session result server.new.session }
+    ensures untouched { result ≢ 0 → (fds.new ≡ fds.old) × (count.new ≡ count.old) }
 {
     match server.take(alloc) {
         None => number_of(Err(Refusal::NoSession)),

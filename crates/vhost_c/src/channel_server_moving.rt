@@ -1,6 +1,6 @@
 //! What came for a frontend's session of the backend channel is received and read, and what it replies goes out.
 
-ghost use Rattle.std.specs.Prelude.{◌≡◌};
+ghost use Rattle.std.specs.Prelude.{◌≡◌, ◌≢◌};
 ghost use Rattle.vhost_c_common.specs.ByNumber.{By};
 ghost use Rattle.vhost_c_channel.specs.Serving.{Sending, Receiving, Getting, Ending, Beginning};
 ghost use Rattle.vhost_c.specs.Channel.{missing_of_server};
@@ -77,6 +77,7 @@ pub extern "C" fn covretin_channel_server_to_send(
 ) -> u32
     ensures sent { By (Sending bytes.new fds.new (byte_count.new, fd_count.new)) server.old.session result server.new.session }
     ensures held { By (λ s o s'. s'.held ≡ s.held) server.old.session result server.new.session }
+    ensures untouched { result ≢ 0 → (bytes.new ≡ bytes.old) × (fds.new ≡ fds.old) × (byte_count.new ≡ byte_count.old) × (fd_count.new ≡ fd_count.old) }
 {
     match server.take(alloc) {
         None => number_of(Err(Refusal::NoSession)),
@@ -102,7 +103,8 @@ pub extern "C" fn covretin_channel_server_next(
     server: &mut ChannelServerHolder,
     call: &mut u32,
 ) -> u32
-    ensures { By (Beginning call.new) server.old.session result server.new.session }
+    ensures does { By (Beginning call.new) server.old.session result server.new.session }
+    ensures untouched { result ≢ 0 → call.new ≡ call.old }
 {
     match server.take(alloc) {
         None => number_of(Err(Refusal::NoSession)),

@@ -1,6 +1,6 @@
 //! What a session with a display sends goes out, and what came for it is received.
 
-ghost use Rattle.std.specs.Prelude.{◌≡◌};
+ghost use Rattle.std.specs.Prelude.{◌≡◌, ◌≢◌};
 ghost use Rattle.vhost_c_common.specs.ByNumber.{By};
 ghost use Rattle.vhost_c_channel.specs.Display.{Sending, Receiving, Getting, LettingGo};
 ghost use Rattle.vhost_c.specs.Display.{missing_at};
@@ -21,6 +21,7 @@ pub extern "C" fn covretin_display_to_send(
 ) -> u32
     ensures sent { By (Sending bytes.new fds.new (byte_count.new, fd_count.new)) display.old.session result display.new.session }
     ensures held { By (λ s o s'. s'.held ≡ s.held) display.old.session result display.new.session }
+    ensures untouched { result ≢ 0 → (bytes.new ≡ bytes.old) × (fds.new ≡ fds.old) × (byte_count.new ≡ byte_count.old) × (fd_count.new ≡ fd_count.old) }
 {
     match display.take(alloc) {
         None => number_of(Err(Refusal::NoSession)),
@@ -82,7 +83,8 @@ pub extern "C" fn covretin_display_unclaimed(
     fds: &mut [i32],
     count: &mut usize,
 ) -> u32
-    ensures { By (LettingGo fds.old count.new fds.new) display.old.session result display.new.session }
+    ensures does { By (LettingGo fds.old count.new fds.new) display.old.session result display.new.session }
+    ensures untouched { result ≢ 0 → (fds.new ≡ fds.old) × (count.new ≡ count.old) }
 {
     match display.take(alloc) {
         None => number_of(Err(Refusal::NoSession)),

@@ -1,5 +1,6 @@
 //! The reply of a display is taken, by its form.
 
+ghost use Rattle.std.specs.Prelude.{◌≡◌, ◌≢◌};
 ghost use Rattle.vhost_gpu_message.specs.Replies.{display_info_of, display_info_text, edid_of, edid_text};
 ghost use Rattle.vhost_protocol.specs.Gpu.{TheDisplayInfo, TheEdid};
 ghost use Rattle.vhost_c_common.specs.ByNumber.{By};
@@ -32,7 +33,8 @@ pub extern "C" fn covretin_display_take_number(
     display: &mut DisplayHolder,
     number: &mut u64,
 ) -> u32
-    ensures { By (TakesNumber number.old number.new) display.old.session result display.new.session }
+    ensures does { By (TakesNumber number.old number.new) display.old.session result display.new.session }
+    ensures untouched { result ≢ 0 → number.new ≡ number.old }
 {
     match display.take(alloc) {
         None => number_of(Err(Refusal::NoSession)),
@@ -57,7 +59,8 @@ pub extern "C" fn covretin_display_take_display_info(
     display: &mut DisplayHolder,
     place: &mut [u8],
 ) -> u32
-    ensures { By (λ s o s'. TakesTo TheDisplayInfo display_info_of display_info_text place.old place.new s s' o) display.old.session result display.new.session }
+    ensures does { By (λ s o s'. TakesTo TheDisplayInfo display_info_of display_info_text place.old place.new s s' o) display.old.session result display.new.session }
+    ensures untouched { result ≢ 0 → place.new ≡ place.old }
 {
     match display.take(alloc) {
         None => number_of(Err(Refusal::NoSession)),
@@ -76,7 +79,8 @@ pub extern "C" fn covretin_display_take_edid(
     display: &mut DisplayHolder,
     place: &mut [u8],
 ) -> u32
-    ensures { By (λ s o s'. TakesTo TheEdid edid_of edid_text place.old place.new s s' o) display.old.session result display.new.session }
+    ensures does { By (λ s o s'. TakesTo TheEdid edid_of edid_text place.old place.new s s' o) display.old.session result display.new.session }
+    ensures untouched { result ≢ 0 → place.new ≡ place.old }
 {
     match display.take(alloc) {
         None => number_of(Err(Refusal::NoSession)),

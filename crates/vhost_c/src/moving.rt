@@ -1,6 +1,6 @@
 //! What a session sends goes out, what came for it is received, and its answers are decoded.
 
-ghost use Rattle.std.specs.Prelude.{◌≡◌};
+ghost use Rattle.std.specs.Prelude.{◌≡◌, ◌≢◌};
 ghost use Rattle.vhost_c_common.specs.ByNumber.{By};
 ghost use Rattle.vhost_c_frontend.specs.Session.{Sending, Receiving, Getting, Takes, TakesHeld, missing_at, inactive_at};
 
@@ -20,6 +20,7 @@ pub extern "C" fn covretin_to_send(
 ) -> u32
     ensures sent { By (Sending bytes.new fds.new (byte_count.new, fd_count.new)) session.old.session result session.new.session }
     ensures held { By (λ s o s'. s'.held ≡ s.held) session.old.session result session.new.session }
+    ensures untouched { result ≢ 0 → (bytes.new ≡ bytes.old) × (fds.new ≡ fds.old) × (byte_count.new ≡ byte_count.old) × (fd_count.new ≡ fd_count.old) }
 {
     match session.take(alloc) {
         None => number_of(Err(Refusal::NoSession)),

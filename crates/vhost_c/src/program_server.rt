@@ -25,7 +25,7 @@ use crate::channel_server_opening::{
 };
 use crate::places::{Places, ProgramAnswer, bare};
 use std::alloc::{AllocError, Global};
-use vhost_endpoint::talks_law;
+use vhost_connection::talks_law;
 
 /// What a call reads, and tells at the program's places: of the session, or an argument of the call that is to be replied to.
 #[derive(Clone, Copy)]

@@ -4,7 +4,7 @@ use Rattle.std.specs.Prelude.{⊤, is_some, if◌then◌else◌}
 use Rattle.std.proofs.lemmas.List.{append-nil}
 use Rattle.vhost_message.specs.declared.error.Error as declared
 use Rattle.vhost_message.specs.declared.error.Error.TheVariants.{InvalidParam, OutOfMemory}
-use Rattle.vhost_message.specs.declared.frontend_req.FrontendReq.TheVariants.{GET_FEATURES}
+use Rattle.vhost_message.specs.declared.heard_req.HeardReq.TheVariants.{GET_FEATURES}
 use Rattle.vhost_message.specs.declared.records.memory.VhostUserMemoryRegion.{VhostUserMemoryRegion}
 use Rattle.vhost_message.specs.declared.records.shmem.VhostUserShMemConfig.{VhostUserShMemConfig}
 use Rattle.vhost_protocol.specs.Answered.{with_features}
@@ -17,17 +17,17 @@ use Rattle.vhost_protocol.specs.Split.{split}
 use Rattle.vhost_protocol.specs.Step.{Outcome, Step}
 use Rattle.vhost_protocol.specs.Stream.{Cell, plain}
 use Rattle.vhost_link.specs.declared.plain.PlainHandle.{PlainHandle}
-use Rattle.vhost_endpoint.specs.Memory.{TalksLaw}
-use Rattle.vhost_serving_core.specs.Beginning.{step_of}
-use Rattle.vhost_serving_core.specs.Concluding.{FollowsFrom}
-use Rattle.vhost_serving_core.specs.Session.{session_of}
-use Rattle.vhost_serving_core.specs.declared.answer.DeviceAnswer.{DeviceAnswer}
-use Rattle.vhost_serving_core.specs.declared.call.DeviceCall.{DeviceCall}
-use Rattle.vhost_serving_core.specs.declared.call.DeviceCall.TheVariants as call
-use Rattle.vhost_serving.specs.Calling.{beside}
-use Rattle.vhost_serving.specs.Core.{endpoint_of}
-use Rattle.vhost_serving.specs.Halves.{uncalled, unopened}
-use Rattle.vhost_serving.specs.Serving.{fitting, kept_unsent, reply_cells}
+use Rattle.vhost_connection.specs.Memory.{TalksLaw}
+use Rattle.vhost_backend_req_handler_core.specs.Beginning.{step_of}
+use Rattle.vhost_backend_req_handler_core.specs.Concluding.{FollowsFrom}
+use Rattle.vhost_backend_req_handler_core.specs.Session.{session_of}
+use Rattle.vhost_backend_req_handler_core.specs.declared.answer.DeviceAnswer.{DeviceAnswer}
+use Rattle.vhost_backend_req_handler_core.specs.declared.call.DeviceCall.{DeviceCall}
+use Rattle.vhost_backend_req_handler_core.specs.declared.call.DeviceCall.TheVariants as call
+use Rattle.vhost_backend_req_handler.specs.Calling.{beside}
+use Rattle.vhost_backend_req_handler.specs.Core.{endpoint_of}
+use Rattle.vhost_backend_req_handler.specs.Halves.{uncalled, unopened}
+use Rattle.vhost_backend_req_handler.specs.Serving.{fitting, kept_unsent, reply_cells}
 use Rattle.vhost_c_common.proofs.Wanting.{comes, is-uncut, none-missing, refused-wants, untaken, wants}
 use Rattle.vhost_c_common.proofs.Wants.{halted}
 use Rattle.vhost_c_common.specs.Incoming.{missing_by}

@@ -1,7 +1,7 @@
 -- An error of what follows from a device's answer is the device's, or says that the answer doesn't do.
 use Rattle.std.proofs.Common.{◌≡◌, inl, inr, ℕ, Bool, true, false, List, length, Option, Some, None, Result, Ok, Err, refl, subst}
 use Rattle.std.specs.Prelude.{⊤, ◌==◌, if◌then◌else◌}
-use Rattle.vhost_message.specs.declared.frontend_req.FrontendReq.{FrontendReq}
+use Rattle.vhost_message.specs.declared.heard_req.HeardReq.{HeardReq}
 use Rattle.vhost_message.specs.declared.records.config.VhostUserConfig.{VhostUserConfig}
 use Rattle.vhost_message.specs.declared.records.inflight.VhostUserInflight.{VhostUserInflight}
 use Rattle.vhost_message.specs.declared.records.memory.VhostUserMemoryRegion.{VhostUserMemoryRegion}
@@ -13,11 +13,11 @@ use Rattle.vhost_protocol.specs.Split.{Message}
 use Rattle.vhost_protocol.specs.Step.{Outcome, done, replied_or_silent}
 use Rattle.vhost_protocol.specs.Written.{Payload}
 use Rattle.vhost_link.specs.declared.plain.PlainHandle.{PlainHandle}
-use Rattle.vhost_serving_core.specs.Concluding.{Beside, concluded, reported, remembered, wanting, with_counted, done_in, number_in, bases_in, base_in, bytes_in, handle_in, ring_state_in, inflight_in, state_handle_in, shmem_in}
-use Rattle.vhost_serving_core.specs.declared.answer.DeviceAnswer.{DeviceAnswer}
-use Rattle.vhost_serving_core.specs.declared.answer.DeviceAnswer.TheVariants as answer
-use Rattle.vhost_serving_core.specs.declared.answer.Then.{Then}
-use Rattle.vhost_serving_core.specs.declared.answer.Then.TheVariants as then_
+use Rattle.vhost_backend_req_handler_core.specs.Concluding.{Beside, concluded, reported, remembered, wanting, with_counted, done_in, number_in, bases_in, base_in, bytes_in, handle_in, ring_state_in, inflight_in, state_handle_in, shmem_in}
+use Rattle.vhost_backend_req_handler_core.specs.declared.answer.DeviceAnswer.{DeviceAnswer}
+use Rattle.vhost_backend_req_handler_core.specs.declared.answer.DeviceAnswer.TheVariants as answer
+use Rattle.vhost_backend_req_handler_core.specs.declared.answer.Then.{Then}
+use Rattle.vhost_backend_req_handler_core.specs.declared.answer.Then.TheVariants as then_
 use Rattle.vhost_c_backend.specs.Serving.{IsOwn}
 
 abbrev Answer : Type 0
@@ -84,7 +84,7 @@ inflight-owned : (a : Answer) (s : Session) (r : Result (VhostUserInflight × Pl
 inflight-owned a s (Ok v) own = tt
 inflight-owned a s (Err e) own = own
 
-base-owned : (a : Answer) (s : Session) (m : Message FrontendReq PlainHandle) (region : VhostUserSingleMemoryRegion) (r : Result (Option ℕ) Error) → Owns a r → Fine a (with_base s m region r)
+base-owned : (a : Answer) (s : Session) (m : Message HeardReq PlainHandle) (region : VhostUserSingleMemoryRegion) (r : Result (Option ℕ) Error) → Owns a r → Fine a (with_base s m region r)
 base-owned a s m region (Ok (Some base)) own = tt
 base-owned a s m region (Ok None) own = inr refl
 base-owned a s m region (Err e) own = own
@@ -93,7 +93,7 @@ either : (a : Answer) (b : Bool) (x y : Outcome PlainHandle) → Fine a x → Fi
 either a true x y p q = p
 either a false x y p q = q
 
-bases-owned : (a : Answer) (s : Session) (m : Message FrontendReq PlainHandle) (regions : List VhostUserMemoryRegion) (n : ℕ) (r : Result (Option (List ℕ)) Error) → Owns a r → Fine a (with_counted s m regions n r)
+bases-owned : (a : Answer) (s : Session) (m : Message HeardReq PlainHandle) (regions : List VhostUserMemoryRegion) (n : ℕ) (r : Result (Option (List ℕ)) Error) → Owns a r → Fine a (with_counted s m regions n r)
 bases-owned a s m regions n (Ok (Some bases)) own = either a (length bases == n) _ _ tt (inr refl)
 bases-owned a s m regions n (Ok None) own = inr refl
 bases-owned a s m regions n (Err e) own = own

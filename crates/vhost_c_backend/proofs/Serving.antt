@@ -1,6 +1,6 @@
 -- What a session tells of a call, and what becomes of it.
 use Rattle.std.proofs.Common.{◌≡◌, ◌<◌, ◌≤◌, ℕ, Bool, true, false, List, [], ◌∷◌, ◌++◌, append_assoc, Option, Some, None, Result, Ok, Err, refl, sym, ap, subst, ◌∙◌, arith}
-use Rattle.std.specs.Prelude.{⊤, Vec, IfSome, is_some, ok_or, if◌then◌else◌}
+use Rattle.std.specs.Prelude.{⊤, Vec, IfErr, IfSome, is_some, ok_or, if◌then◌else◌}
 use Rattle.std.specs.Global.{Global}
 use Rattle.vhost_message.specs.declared.error.Error as declared
 use Rattle.vhost_message.specs.declared.records.shmem.VhostUserShMemConfig.{VhostUserShMemConfig}
@@ -13,22 +13,22 @@ use Rattle.vhost_protocol.specs.Stream.{Cell}
 use Rattle.vhost_link.specs.Ends.{Ends}
 use Rattle.vhost_link.specs.Mem.{event}
 use Rattle.vhost_link.specs.declared.plain.PlainHandle.{PlainHandle}
-use Rattle.vhost_endpoint.specs.Calls.{HandsOver}
-use Rattle.vhost_endpoint.specs.Memory.{TalksLaw}
-use Rattle.vhost_endpoint.specs.Requests.{Reads, Stops}
-use Rattle.vhost_serving_core.specs.Beginning.{handles_in, step_of, with_one, with_wanted}
-use Rattle.vhost_serving_core.specs.Concluding.{ConcludesRow, FollowsFrom, concluded, regions_for, then_of}
-use Rattle.vhost_serving_core.specs.Fits.{Makes}
-use Rattle.vhost_serving_core.specs.Settling.{Settles, settled_by}
-use Rattle.vhost_serving_core.specs.declared.answer.DeviceAnswer.{DeviceAnswer}
-use Rattle.vhost_serving_core.specs.declared.call.DeviceCall.{DeviceCall}
-use Rattle.vhost_serving_core.specs.declared.call.DeviceCall.TheVariants as call
-use Rattle.vhost_serving.specs.Core.{endpoint_of, session_in}
-use Rattle.vhost_serving.specs.Halves as halves
-use Rattle.vhost_serving.specs.Halves.{Prepares, beside_then}
-use Rattle.vhost_serving.specs.Serving.{Finishes, finished, stopped, reply_cells, kept_unsent}
-use Rattle.vhost_serving.specs.declared.halves.Pending.{Pending}
-use Rattle.vhost_serving.specs.declared.session_core.SessionCore.{SessionCore}
+use Rattle.vhost_connection.specs.Calls.{HandsOver}
+use Rattle.vhost_connection.specs.Memory.{TalksLaw}
+use Rattle.vhost_connection.specs.Requests.{Reads, Stops}
+use Rattle.vhost_backend_req_handler_core.specs.Beginning.{handles_in, step_of, with_one, with_wanted}
+use Rattle.vhost_backend_req_handler_core.specs.Concluding.{ConcludesRow, FollowsFrom, concluded, regions_for, then_of}
+use Rattle.vhost_backend_req_handler_core.specs.Fits.{Makes}
+use Rattle.vhost_backend_req_handler_core.specs.Settling.{Settles, settled_by}
+use Rattle.vhost_backend_req_handler_core.specs.declared.answer.DeviceAnswer.{DeviceAnswer}
+use Rattle.vhost_backend_req_handler_core.specs.declared.call.DeviceCall.{DeviceCall}
+use Rattle.vhost_backend_req_handler_core.specs.declared.call.DeviceCall.TheVariants as call
+use Rattle.vhost_backend_req_handler.specs.Core.{endpoint_of, session_in}
+use Rattle.vhost_backend_req_handler.specs.Halves as halves
+use Rattle.vhost_backend_req_handler.specs.Halves.{Prepares, beside_then}
+use Rattle.vhost_backend_req_handler.specs.Serving.{Finishes, finished, stopped, reply_cells, kept_unsent}
+use Rattle.vhost_backend_req_handler.specs.declared.halves.Pending.{Pending}
+use Rattle.vhost_backend_req_handler.specs.declared.session_core.SessionCore.{SessionCore}
 use Rattle.vhost_c_common.proofs.Hearing.{hears-cut, replies-told}
 use Rattle.vhost_c_common.proofs.Wants.{sound}
 use Rattle.vhost_c_common.specs.Held.{LetsGo, Released}
@@ -36,6 +36,7 @@ use Rattle.vhost_c_common.specs.declared.held.Held.{Held}
 use Rattle.vhost_c_common.specs.declared.outgoing.Outgoing.{Outgoing}
 use Rattle.vhost_c_common.specs.declared.refusal.Refusal.{Refusal}
 use Rattle.vhost_c_common.specs.declared.refusal.Refusal.TheVariants.{Protocol, NothingAsked, OtherCall}
+use Rattle.vhost_c_backend.specs.Arguments.{PutsList, PutsNamed}
 use Rattle.vhost_c_backend.specs.Calls.{asked_number, call_number}
 use Rattle.vhost_c_backend.specs.Replies.{form_in}
 use Rattle.vhost_c_backend.specs.Served.{remembers, has_call, missing_of, missing_of_request}
@@ -95,23 +96,40 @@ tells-plain of s outcome c one none is = record {
   none = λ idle. absurd (cc (none idle));
 }
 
+-- where nothing is put, the place is as it was
+pub list-kept : {A B : Type 0} (x : Option (List A × B)) (before after : List A) (o : Result (ℕ × B) Refusal) → PutsList x before after o → IfErr o (λ r. after ≡ before)
+list-kept x before after (Ok y) puts = tt
+list-kept (Some x) before after (Err r) puts = puts.2
+list-kept None before after (Err r) puts = puts.1
+
+pub name-kept : (x : Option (List ℕ)) (before after : List ℕ) (o : Result ⊤ Refusal) → PutsNamed x before after o → IfErr o (λ r. after ≡ before)
+name-kept x before after (Ok t) puts = tt
+name-kept (Some x) before after (Err r) puts = puts.2
+name-kept None before after (Err r) puts = puts.1
+
 -- what is put into the room of a place
 module _ {A B : Type 0} (puts : List PlainHandle → DeviceCall → List A → List A → Result B Refusal → Type 0) (s : Served) (hs : List PlainHandle) (before after : List A) (outcome : Result B Refusal) where
   pub puts-some : (c : DeviceCall) → ((m : Request) → IsServed m s → (d : DeviceCall) × (Some c ≡ Some d) × IsCall (remembers s) m d) → (has_call s ≡ false → Some c ≡ None) → ((m : Request) → IsServed m s → hs ≡ m.handles)
-      → puts hs c before after outcome → Puts puts s before after outcome
-  puts-some c one none handles is = record {
+      → puts hs c before after outcome → IfErr outcome (λ r. after ≡ before) → Puts puts s before after outcome
+  puts-some c one none handles is kept = record {
     one = λ m x. let d = one m x in let same : c ≡ d.0 = cc d.1 in (d.0, d.2, subst (λ e. puts m.handles e before after outcome) same (subst (λ xs. puts xs c before after outcome) (handles m x) is));
     none = λ idle. absurd (cc (none idle));
+    refused = kept;
   }
 
   pub puts-none : ((m : Request) → IsServed m s → (d : DeviceCall) × (None ≡ Some d) × IsCall (remembers s) m d) → outcome ≡ Err OtherCall → after ≡ before → Puts puts s before after outcome
-  puts-none one is same = record { one = λ m x. absurd (cc (one m x).1); none = λ idle. (is, same) }
+  puts-none one is same = record { one = λ m x. absurd (cc (one m x).1); none = λ idle. (is, same); refused = left outcome }
+    where
+      left : (o : Result B Refusal) → IfErr o (λ r. after ≡ before)
+      left (Ok b) = tt
+      left (Err r) = same
 
 pub puts-plain : {A B : Type 0} (puts : DeviceCall → List A → List A → Result B Refusal → Type 0) (s : Served) (before after : List A) (outcome : Result B Refusal) (c : DeviceCall)
-    → ((m : Request) → IsServed m s → (d : DeviceCall) × (Some c ≡ Some d) × IsCall (remembers s) m d) → (has_call s ≡ false → Some c ≡ None) → puts c before after outcome → Puts (λ hs e. puts e) s before after outcome
-puts-plain puts s before after outcome c one none is = record {
+    → ((m : Request) → IsServed m s → (d : DeviceCall) × (Some c ≡ Some d) × IsCall (remembers s) m d) → (has_call s ≡ false → Some c ≡ None) → puts c before after outcome → IfErr outcome (λ r. after ≡ before) → Puts (λ hs e. puts e) s before after outcome
+puts-plain puts s before after outcome c one none is kept = record {
   one = λ m x. let d = one m x in let same : c ≡ d.0 = cc d.1 in (d.0, d.2, subst (λ e. puts e before after outcome) same is);
   none = λ idle. absurd (cc (none idle));
+  refused = kept;
 }
 
 -- ---- the next request

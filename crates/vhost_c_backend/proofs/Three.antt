@@ -3,8 +3,8 @@ use Rattle.std.proofs.Common.{◌≡◌, ℕ, Bool, true, false, cond, ◌&&◌,
 use Rattle.std.specs.Prelude.{⊤, ◌||◌, not, if◌then◌else◌}
 use Rattle.std.specs.Option.{IsSomeAnd}
 use Rattle.std.proofs.lemmas.List.{append-nil}
-use Rattle.vhost_message.specs.declared.frontend_req.FrontendReq.{FrontendReq}
-use Rattle.vhost_message.specs.declared.frontend_req.FrontendReq.TheVariants.{GET_FEATURES, SET_OWNER, RESET_OWNER}
+use Rattle.vhost_message.specs.declared.heard_req.HeardReq.{HeardReq}
+use Rattle.vhost_message.specs.declared.heard_req.HeardReq.TheVariants.{GET_FEATURES, SET_OWNER, RESET_OWNER}
 use Rattle.vhost_message.specs.declared.records.memory.VhostUserMemoryRegion.{VhostUserMemoryRegion}
 use Rattle.vhost_message.specs.declared.records.shmem.VhostUserShMemConfig.{VhostUserShMemConfig}
 use Rattle.vhost_protocol.specs.Codes.{allows_handles}
@@ -19,21 +19,21 @@ use Rattle.vhost_protocol.specs.Step.{Outcome, with_ack}
 use Rattle.vhost_protocol.specs.Stream.{Cell, plain}
 use Rattle.vhost_protocol.specs.Written.{U64}
 use Rattle.vhost_link.specs.declared.plain.PlainHandle.{PlainHandle}
-use Rattle.vhost_serving_core.specs.Concluding.{Beside, FollowsFrom, done_in, number_in}
-use Rattle.vhost_serving_core.specs.Session.{session_of}
-use Rattle.vhost_serving_core.specs.declared.answer.DeviceAnswer.{DeviceAnswer}
-use Rattle.vhost_serving_core.specs.declared.answer.DeviceAnswer.TheVariants as answer
+use Rattle.vhost_backend_req_handler_core.specs.Concluding.{Beside, FollowsFrom, done_in, number_in}
+use Rattle.vhost_backend_req_handler_core.specs.Session.{session_of}
+use Rattle.vhost_backend_req_handler_core.specs.declared.answer.DeviceAnswer.{DeviceAnswer}
+use Rattle.vhost_backend_req_handler_core.specs.declared.answer.DeviceAnswer.TheVariants as answer
 use Rattle.vhost_protocol.specs.Answered.{with_features}
-use Rattle.vhost_serving.specs.Calling.{beside}
-use Rattle.vhost_serving.specs.Serving.{reply_cells}
-use Rattle.vhost_serving.specs.declared.service.Service.{Service}
+use Rattle.vhost_backend_req_handler.specs.Calling.{beside}
+use Rattle.vhost_backend_req_handler.specs.Serving.{reply_cells}
+use Rattle.vhost_backend_req_handler.specs.declared.service.Service.{Service}
 use Rattle.vhost_c_common.proofs.Wanting.{comes}
 use Rattle.vhost_c_common.specs.ByNumber.{By, none, some}
 use Rattle.vhost_c_common.specs.Number.{outcome_number}
 use Rattle.vhost_c_common.specs.declared.refusal.Refusal.{Refusal}
 use Rattle.vhost_c_backend.specs.Calls.{asked_number}
 use Rattle.vhost_c_backend.specs.Replies.{form_in, Gives, Rejects}
-use Rattle.vhost_serving.specs.declared.halves.Pending.{Pending}
+use Rattle.vhost_backend_req_handler.specs.declared.halves.Pending.{Pending}
 use Rattle.vhost_c_backend.specs.Served.{arrived, new_session, queued, remembers, Receiving}
 use Rattle.vhost_c_backend.specs.Serving.{Request, Channel, Display, row, IsServed, Begins, Beginning, Answering, Replying, done, Concludes, told}
 use Rattle.vhost_c_backend.specs.Waiting.{IsWaiting, HasRead, bare_request, features_reply}
@@ -117,7 +117,7 @@ module _ (m : Request) (r : Reply) (memory : Session) (queue : List (Cell PlainH
 -- ---- these three
 
 -- a message without a body
-abbrev pub asks : FrontendReq → Request
+abbrev pub asks : HeardReq → Request
 asks r = record { request = r; reply = false; need_reply = false; body = []; handles = [] }
 
 number-given : (f : Form) (n : ℕ) (a : DeviceAnswer PlainHandle) → Gives f (reply.Number n) a → a ≡ answer.Number (Ok n)

@@ -1,7 +1,7 @@
 -- What is told of the call that is to be replied to, by the number that C is answered.
 use Rattle.std.proofs.Common.{◌≡◌, List, Option, Result, Ok, Err, refl, subst}
 use Rattle.vhost_link.specs.declared.plain.PlainHandle.{PlainHandle}
-use Rattle.vhost_serving_core.specs.declared.call.DeviceCall.{DeviceCall}
+use Rattle.vhost_backend_req_handler_core.specs.declared.call.DeviceCall.{DeviceCall}
 use Rattle.vhost_c_common.specs.declared.refusal.Refusal.{Refusal}
 use Rattle.vhost_c_backend.specs.Serving.{Tells, Puts, Telling, Putting}
 use Rattle.vhost_c_backend.specs.declared.served.Served.{Served}

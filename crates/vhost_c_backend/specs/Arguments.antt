@@ -4,9 +4,9 @@ use Rattle.vhost_message.specs.Transfer.{direction_number, phase_number}
 use Rattle.vhost_message.specs.declared.records.memory.VhostUserMemoryRegion.{VhostUserMemoryRegion}
 use Rattle.vhost_message.specs.declared.records.vring.VhostUserVringAddr.{VhostUserVringAddr}
 use Rattle.vhost_link.specs.declared.plain.PlainHandle.{PlainHandle}
-use Rattle.vhost_serving_core.specs.Beginning.{regions_in}
-use Rattle.vhost_serving_core.specs.declared.call.DeviceCall.{DeviceCall}
-use Rattle.vhost_serving_core.specs.declared.call.DeviceCall.TheVariants as call
+use Rattle.vhost_backend_req_handler_core.specs.Beginning.{regions_in}
+use Rattle.vhost_backend_req_handler_core.specs.declared.call.DeviceCall.{DeviceCall}
+use Rattle.vhost_backend_req_handler_core.specs.declared.call.DeviceCall.TheVariants as call
 use Rattle.vhost_c_common.specs.Records.{fd_in}
 use Rattle.vhost_c_common.specs.declared.records.Config.{Config}
 use Rattle.vhost_c_common.specs.declared.records.Inflight.{Inflight}

@@ -2,7 +2,7 @@
 use Rattle.std.specs.Prelude.{◌≡◌, ℕ, zero, suc, false, List, [], ◌++◌, None, Result, Ok, Err, ⊤}
 use Rattle.vhost_protocol.specs.Stream.{Cell, plain}
 use Rattle.vhost_link.specs.declared.plain.PlainHandle.{PlainHandle}
-use Rattle.vhost_serving.specs.Core.{endpoint_of}
+use Rattle.vhost_backend_req_handler.specs.Core.{endpoint_of}
 use Rattle.vhost_c_common.specs.Memory.{WantsMemory}
 use Rattle.vhost_c_common.specs.declared.refusal.Refusal.{Refusal}
 use Rattle.vhost_c_backend.specs.Served.{arrived, has_call, new_session, queued, remembers}

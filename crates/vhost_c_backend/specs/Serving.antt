@@ -1,9 +1,9 @@
 -- Requests that a session reads, the calls of the device that they become, and what is replied.
-use Rattle.std.specs.Prelude.{◌≡◌, ◌<◌, ◌⊎◌, ℕ, ℤ, true, false, List, ◌++◌, Option, Some, None, Result, Ok, Err, ⊤, ok_or}
+use Rattle.std.specs.Prelude.{◌≡◌, ◌<◌, ◌⊎◌, ℕ, ℤ, true, false, List, ◌++◌, Option, Some, None, Result, Ok, Err, IfErr, ⊤, ok_or}
 use Rattle.vhost_message.specs.declared.cause.IoCause.TheVariants.{Raw}
 use Rattle.vhost_message.specs.declared.error.Error as declared
 use Rattle.vhost_message.specs.declared.error.Error.TheVariants.{SocketBroken}
-use Rattle.vhost_message.specs.declared.frontend_req.FrontendReq.{FrontendReq}
+use Rattle.vhost_message.specs.declared.heard_req.HeardReq.{HeardReq}
 use Rattle.vhost_message.specs.declared.records.memory.VhostUserMemoryRegion.{VhostUserMemoryRegion}
 use Rattle.vhost_message.specs.declared.records.shmem.VhostUserShMemConfig.{VhostUserShMemConfig}
 use Rattle.vhost_message.specs.Records.{shmem_config}
@@ -17,21 +17,21 @@ use Rattle.vhost_protocol.specs.Step.{Step, Outcome}
 use Rattle.vhost_link.specs.Ends.{Ends}
 use Rattle.vhost_link.specs.Mem.{event}
 use Rattle.vhost_link.specs.declared.plain.PlainHandle.{PlainHandle}
-use Rattle.vhost_endpoint.specs.Calls.{HandsOver}
-use Rattle.vhost_endpoint.specs.Requests.{IsReady, Reads, Stops}
-use Rattle.vhost_serving_core.specs.Beginning.{step_of}
-use Rattle.vhost_serving_core.specs.Concluding.{FollowsFrom, device_in}
-use Rattle.vhost_serving_core.specs.Settling.{Settles}
-use Rattle.vhost_serving_core.specs.declared.answer.DeviceAnswer.{DeviceAnswer}
-use Rattle.vhost_serving_core.specs.declared.call.DeviceCall.{DeviceCall}
+use Rattle.vhost_connection.specs.Calls.{HandsOver}
+use Rattle.vhost_connection.specs.Requests.{IsReady, Reads, Stops}
+use Rattle.vhost_backend_req_handler_core.specs.Beginning.{step_of}
+use Rattle.vhost_backend_req_handler_core.specs.Concluding.{FollowsFrom, device_in}
+use Rattle.vhost_backend_req_handler_core.specs.Settling.{Settles}
+use Rattle.vhost_backend_req_handler_core.specs.declared.answer.DeviceAnswer.{DeviceAnswer}
+use Rattle.vhost_backend_req_handler_core.specs.declared.call.DeviceCall.{DeviceCall}
 use Rattle.vhost_backend_req.specs.declared.backend.Backend.{Backend}
 use Rattle.vhost_gpu_backend_req.specs.declared.backend.GpuBackend.{GpuBackend}
-use Rattle.vhost_serving.specs.Calling.{beside}
-use Rattle.vhost_serving.specs.Core.{endpoint_of, session_in}
-use Rattle.vhost_serving.specs.Halves.{Prepares, Refuses}
-use Rattle.vhost_serving.specs.Serving.{reply_cells, kept_unsent}
-use Rattle.vhost_serving.specs.declared.halves.Pending.{Pending}
-use Rattle.vhost_serving.specs.declared.session_core.SessionCore.{SessionCore}
+use Rattle.vhost_backend_req_handler.specs.Calling.{beside}
+use Rattle.vhost_backend_req_handler.specs.Core.{endpoint_of, session_in}
+use Rattle.vhost_backend_req_handler.specs.Halves.{Prepares, Refuses}
+use Rattle.vhost_backend_req_handler.specs.Serving.{reply_cells, kept_unsent}
+use Rattle.vhost_backend_req_handler.specs.declared.halves.Pending.{Pending}
+use Rattle.vhost_backend_req_handler.specs.declared.session_core.SessionCore.{SessionCore}
 use Rattle.vhost_c_common.specs.Carrying.{emptied}
 use Rattle.vhost_c_common.specs.Held.{LetsGo, Released}
 use Rattle.vhost_c_common.specs.Number.{feature_in}
@@ -48,7 +48,7 @@ use Rattle.vhost_c_backend.specs.declared.served.Served.{Served}
 -- ---- calls
 
 abbrev pub Request : Type 0
-Request = Message FrontendReq PlainHandle
+Request = Message HeardReq PlainHandle
 
 -- the channels of a device, of which none is ever opened here
 abbrev pub Channel : Type 0
@@ -91,6 +91,7 @@ pub record Tells {A : Type 0} (of : List PlainHandle → DeviceCall → Option A
 pub record Puts {A B : Type 0} (puts : List PlainHandle → DeviceCall → List A → List A → Result B Refusal → Type 0) (s : Served) (before after : List A) (outcome : Result B Refusal) : Type 0 where
   pub one : (m : Request) → IsServed m s → (c : DeviceCall) × IsCall (remembers s) m c × puts m.handles c before after outcome
   pub none : has_call s ≡ false → (outcome ≡ Err OtherCall) × (after ≡ before)
+  pub refused : IfErr outcome (λ r. after ≡ before)
 
 -- the same of calls of C, which put it at places and leave the session as it is
 abbrev pub Telling : {A : Type 0} → (List PlainHandle → DeviceCall → Option A) → A → Served → Result ⊤ Refusal → Served → Type 0

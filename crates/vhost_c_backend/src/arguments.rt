@@ -3,10 +3,10 @@
 ghost use Rattle.std.specs.Prelude.{◌≡◌};
 ghost use Rattle.vhost_c_backend.specs.Arguments.{number_arg, ring_arg, vring_arg, ring_fd_arg, fd_arg, inflight_arg, transfer_arg, log_arg, vring_at, first_fd as fd_first};
 
+use vhost_backend_req_handler_core::DeviceCall;
 use vhost_c_common::{Inflight, Region, Vring, fd_of};
 use vhost_link::PlainHandle;
 use vhost_message::VhostUserVringAddr;
-use vhost_serving_core::DeviceCall;
 
 /// A number, or features.
 pub(crate) fn number_of(call: &DeviceCall) -> Option<u64>

@@ -3,7 +3,7 @@
 ghost use Rattle.std.specs.Prelude.{◌≡◌};
 ghost use Rattle.vhost_c_backend.specs.Calls.{call_number};
 
-use vhost_serving_core::DeviceCall;
+use vhost_backend_req_handler_core::DeviceCall;
 
 /// The number of `enum covretin_call`.
 pub(crate) fn number_of_call(call: &DeviceCall) -> u32

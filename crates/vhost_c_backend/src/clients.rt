@@ -10,7 +10,7 @@ use crate::replies::Reply;
 use crate::served::Served;
 use std::alloc::Global;
 use vhost_c_common::Refusal;
-use vhost_endpoint::talks_law;
+use vhost_connection::talks_law;
 
 type Outcome<T> = std::result::Result<T, Refusal>;
 

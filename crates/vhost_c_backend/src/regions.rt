@@ -3,12 +3,12 @@
 ghost use Rattle.std.specs.Prelude.{◌≡◌, ◌≤◌, ◌∷◌, ◌++◌, [], length, map, drop};
 ghost use Rattle.vhost_c_common.specs.Records.{config_in, fd_in};
 ghost use Rattle.vhost_c_backend.specs.Arguments.{region_at, regions_with, PutsAll, PutsRegions, PutsConfig, PutsName, PutsOther, PutsFds, fd_at as fd_of_index};
-ghost use Rattle.vhost_serving_core.specs.Beginning.{regions_in};
+ghost use Rattle.vhost_backend_req_handler_core.specs.Beginning.{regions_in};
 
+use vhost_backend_req_handler_core::{DeviceCall, RegionTable};
 use vhost_c_common::{Config, Refusal, Region, fd_of, put_fds as write_fds};
 use vhost_link::PlainHandle;
 use vhost_message::{MAX_MEM_REGIONS, VhostUserConfig, VhostUserMemoryRegion};
-use vhost_serving_core::{DeviceCall, RegionTable};
 
 type Outcome<T> = std::result::Result<T, Refusal>;
 

@@ -6,10 +6,10 @@ ghost use Rattle.vhost_c_backend.specs.declared.replies.Form.TheVariants as form
 ghost use Rattle.vhost_c_backend.specs.declared.replies.Reply.TheVariants as reply_;
 
 use std::alloc::Global;
+use vhost_backend_req_handler_core::{DeviceAnswer, DeviceCall};
 use vhost_c_common::{Inflight, Refusal, handle_of};
 use vhost_link::PlainHandle;
 use vhost_message::{Error, MAX_MSG_SIZE, VhostUserVringState};
-use vhost_serving_core::{DeviceAnswer, DeviceCall};
 
 type Outcome<T> = std::result::Result<T, Refusal>;
 

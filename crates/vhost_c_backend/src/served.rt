@@ -12,19 +12,19 @@ use crate::regions::{put_config, put_fds, put_name, put_other, put_regions};
 use crate::replies::{Form, Reply, form_of};
 use std::alloc::Global;
 use vhost_backend_req::Backend;
+use vhost_backend_req_handler::SessionCore;
+use vhost_backend_req_handler_core::{DeviceAnswer, DeviceCall, Laws};
 use vhost_c_common::{
     Config, Held, Incoming, Inflight, Outgoing, Refusal, Region, Vring, empty, feature_of,
     hand_out, receive,
 };
-use vhost_endpoint::talks_law;
+use vhost_connection::talks_law;
 use vhost_gpu_backend_req::GpuBackend;
 use vhost_link::{MemLink, PlainHandle};
 use vhost_message::{
-    Error, FrontendReq, MAX_ATTACHED_FD_ENTRIES, MSG_HEADER_SIZE, VhostUserShMemConfig,
+    Error, HeardReq, MAX_ATTACHED_FD_ENTRIES, MSG_HEADER_SIZE, VhostUserShMemConfig,
 };
 use vhost_protocol::Profile;
-use vhost_serving::SessionCore;
-use vhost_serving_core::{DeviceAnswer, DeviceCall, Laws};
 
 type Outcome<T> = std::result::Result<T, Refusal>;
 
@@ -53,10 +53,10 @@ impl Served {
     ghost use Rattle.vhost_c_common.specs.View.{Hands, HandsNone, Receives, TakesNone};
     ghost use Rattle.vhost_c_backend.specs.Served.{IsNew, Choosing, Claiming, missing_of, missing_of_request, end_number, is_first, queued, view, remembers, has_call};
     ghost use Rattle.vhost_c_backend.specs.Replies.{form_in};
-    ghost use Rattle.vhost_serving.specs.Core.{session_in};
+    ghost use Rattle.vhost_backend_req_handler.specs.Core.{session_in};
     ghost use Rattle.vhost_c_backend.specs.Calls.{call_number};
     ghost use Rattle.vhost_c_backend.specs.Serving.{Request, IsRead, IsServed, IsCall, Nexts, Answering, AnsweringShmem, Concludes, Rests};
-    ghost use Rattle.vhost_serving_core.specs.declared.call.DeviceCall.{DeviceCall};
+    ghost use Rattle.vhost_backend_req_handler_core.specs.declared.call.DeviceCall.{DeviceCall};
     ghost use Rattle.std.specs.Prelude.{Some, None, false};
 
     /// A new session.
@@ -160,6 +160,7 @@ impl Served {
         ensures out { IfOk result (λ n. HandsOut (queued self.old) (queued self.new) bytes.new fds.new n) }
         ensures reason { IfErr result (λ r. HandsNone bytes.new fds.new r) }
         ensures refused { IfErr result (λ _. queued self.new ≡ queued self.old) }
+        ensures untouched { IfErr result (λ _. (bytes.new ≡ bytes.old) × (fds.new ≡ fds.old)) }
         ensures rest { Hands (view self.old) (view self.new) }
         ensures held { self.new.held ≡ self.old.held }
     {
@@ -221,7 +222,7 @@ impl Served {
         ensures within { result ≤ MAX_MSG_TEXT }
     {
         self.incoming
-            .missing_by::<FrontendReq>(self.core.hears_any_number())
+            .missing_by::<HeardReq>(self.core.hears_any_number())
     }
 
     /// The call that is to be replied to, if there is one. Its arguments are lent.

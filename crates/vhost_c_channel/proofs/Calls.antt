@@ -17,15 +17,15 @@ use Rattle.vhost_protocol.specs.Written.{Written, written_cells, head_of}
 use Rattle.vhost_link.specs.Ends.{Ends}
 use Rattle.vhost_link.specs.Mem.{event}
 use Rattle.vhost_link.specs.declared.plain.PlainHandle.{PlainHandle}
-use Rattle.vhost_endpoint.specs.Memory.{stream, TalksLaw}
-use Rattle.vhost_endpoint.specs.Talk.{State}
+use Rattle.vhost_connection.specs.Memory.{stream, TalksLaw}
+use Rattle.vhost_connection.specs.Talk.{State}
 use Rattle.vhost_backend_req.specs.Asking as asking
 use Rattle.vhost_backend_req.specs.Asking.{RecvsNumber}
 use Rattle.vhost_backend_req.specs.Channel as link
 use Rattle.vhost_backend_req.specs.Channel.{channel, backend_of}
 use Rattle.vhost_backend_req.specs.Halves.{AsksHalf, AsksHalfFor, AsksValue, goes, refuses, fails}
 use Rattle.vhost_backend_req.specs.declared.call.Asked.TheVariants.{Sent}
-use Rattle.vhost_endpoint.specs.Hearing.{Fails}
+use Rattle.vhost_connection.specs.Hearing.{Fails}
 use Rattle.vhost_c_common.proofs.Hearing.{none-handed, hears-cut}
 use Rattle.vhost_c_common.proofs.OnWay.{empty-parts, sound-since}
 use Rattle.vhost_c_common.proofs.Wants.{sound}

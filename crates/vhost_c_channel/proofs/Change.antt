@@ -13,7 +13,7 @@ use Rattle.vhost_protocol.specs.Split.{body_outcome, split, split_after, split_b
 use Rattle.vhost_protocol.specs.Stream.{Cell, plain}
 use Rattle.vhost_protocol.specs.Written.{U64}
 use Rattle.vhost_link.specs.declared.plain.PlainHandle.{PlainHandle}
-use Rattle.vhost_endpoint.specs.declared.request.Request as code
+use Rattle.vhost_connection.specs.declared.request.Request as code
 use Rattle.vhost_frontend_req_handler.specs.Calling.{call_in}
 use Rattle.vhost_frontend_req_handler.specs.declared.call.FrontendSideCall.{FrontendSideCall}
 use Rattle.vhost_frontend_req_handler.specs.declared.call.FrontendSideCall.TheVariants as call

@@ -12,8 +12,8 @@ use Rattle.vhost_protocol.specs.Stream.{cell, carrying, has_some, plain}
 use Rattle.vhost_link.specs.Ends.{Ends}
 use Rattle.vhost_link.specs.Mem.{event}
 use Rattle.vhost_link.specs.declared.plain.PlainHandle.{PlainHandle}
-use Rattle.vhost_endpoint.specs.Memory.{stream, TalksLaw}
-use Rattle.vhost_endpoint.specs.Talk.{State}
+use Rattle.vhost_connection.specs.Memory.{stream, TalksLaw}
+use Rattle.vhost_connection.specs.Talk.{State}
 use Rattle.vhost_gpu_backend_req.specs.Asking as asking
 use Rattle.vhost_gpu_backend_req.specs.Asking.{RecvsRecord, read_as}
 use Rattle.vhost_gpu_backend_req.specs.Channel as link

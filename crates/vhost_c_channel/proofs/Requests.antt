@@ -1,6 +1,6 @@
 -- What a frontend's session reads, and what it replies.
-use Rattle.std.proofs.Common.{◌≡◌, ◌<◌, ◌≤◌, ◌^◌, ℕ, true, false, List, ◌++◌, append_assoc, Option, Some, Result, Ok, Err, refl, sym, ap, subst, ◌∙◌, arith}
-use Rattle.std.specs.Prelude.{⊤, ok_or, if◌then◌else◌}
+use Rattle.std.proofs.Common.{◌≡◌, ◌<◌, ◌≤◌, ◌^◌, ℕ, true, false, List, ◌++◌, append_assoc, Option, Some, None, Result, Ok, Err, refl, sym, ap, subst, ◌∙◌, arith}
+use Rattle.std.specs.Prelude.{⊤, IfErr, ok_or, if◌then◌else◌}
 use Rattle.vhost_message.specs.BackendReq.{backend_request_of}
 use Rattle.vhost_message.specs.declared.backend_req.BackendReq.{BackendReq}
 use Rattle.vhost_message.specs.declared.error.Error as declared
@@ -9,9 +9,9 @@ use Rattle.vhost_protocol.specs.Reverse.{Server, Calls, backend_allows_handles, 
 use Rattle.vhost_protocol.specs.Split.{split}
 use Rattle.vhost_link.specs.Mem.{event}
 use Rattle.vhost_link.specs.declared.plain.PlainHandle.{PlainHandle}
-use Rattle.vhost_endpoint.specs.Memory.{TalksLaw}
-use Rattle.vhost_endpoint.specs.Requests.{IsReady}
-use Rattle.vhost_endpoint.specs.declared.request.Request as code
+use Rattle.vhost_connection.specs.Memory.{TalksLaw}
+use Rattle.vhost_connection.specs.Requests.{IsReady}
+use Rattle.vhost_connection.specs.declared.request.Request as code
 use Rattle.vhost_frontend_req_handler.specs.Calling.{call_in}
 use Rattle.vhost_frontend_req_handler.specs.Core.{endpoint_of, server_in, number_cells}
 use Rattle.vhost_frontend_req_handler.specs.Halves as halves
@@ -23,12 +23,18 @@ use Rattle.vhost_c_common.specs.Incoming.{missing_by}
 use Rattle.vhost_c_common.specs.declared.outgoing.Outgoing.{Outgoing}
 use Rattle.vhost_c_common.specs.declared.refusal.Refusal.{Refusal}
 use Rattle.vhost_c_common.specs.declared.refusal.Refusal.TheVariants.{OtherCall}
-use Rattle.vhost_c_channel.specs.Arguments.{PutsName, call_number}
+use Rattle.vhost_c_channel.specs.Arguments.{Puts, PutsName, call_number, name_arg}
 use Rattle.vhost_c_channel.specs.Serving as serving
 use Rattle.vhost_c_channel.specs.Serving.{Request, IsServed, Tells, PutsInto, Concludes, concluded, Answering, told, has_call, remembers, queued}
 use Rattle.vhost_c_channel.specs.declared.serving.ChannelServer.{ChannelServer}
 
 -- ---- the call that is to be replied to
+
+-- where no name is put, the place is as it was
+name-kept : (x : Option (List ℕ)) (before after : List ℕ) (o : Result ⊤ Refusal) → Puts x before after o → IfErr o (λ r. after ≡ before)
+name-kept x before after (Ok done) puts = tt
+name-kept (Some x) before after (Err r) puts = puts.2
+name-kept None before after (Err r) puts = puts.1
 
 module _ (s : ChannelServer) (d : FrontendSideCall PlainHandle) (is : (m : Request) (c : FrontendSideCall PlainHandle) → IsServed m c s → d ≡ c) (some : has_call s ≡ false → ⊥) where
   -- what is told of it
@@ -37,14 +43,14 @@ module _ (s : ChannelServer) (d : FrontendSideCall PlainHandle) (is : (m : Reque
 
   -- what is put
   pub puts-some : (before after : List ℕ) (outcome : Result ⊤ Refusal) → PutsName d before after outcome → PutsInto s before after outcome
-  puts-some before after outcome put = record { one = λ m c x. subst (λ e. PutsName e before after outcome) (is m c x) put; none = λ none. absurd (some none) }
+  puts-some before after outcome put = record { one = λ m c x. subst (λ e. PutsName e before after outcome) (is m c x) put; none = λ none. absurd (some none); refused = name-kept (name_arg d) before after outcome put }
 
 module _ (s : ChannelServer) (nobody : (m : Request) (c : FrontendSideCall PlainHandle) → IsServed m c s → ⊥) where
   pub tells-none : {A : Type 0} (of : FrontendSideCall PlainHandle → Option A) → Tells of s (Err OtherCall)
   tells-none of = record { one = λ m c x. absurd (nobody m c x); none = λ none. refl }
 
   pub puts-none : (before : List ℕ) → PutsInto s before before (Err OtherCall)
-  puts-none before = record { one = λ m c x. absurd (nobody m c x); none = λ none. (refl, refl) }
+  puts-none before = record { one = λ m c x. absurd (nobody m c x); none = λ none. (refl, refl); refused = refl }
 
 -- ---- the next request
 

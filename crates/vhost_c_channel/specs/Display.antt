@@ -16,9 +16,9 @@ use Rattle.vhost_protocol.specs.Stream.{Cell, has_some, plain}
 use Rattle.vhost_link.specs.Ends.{Ends}
 use Rattle.vhost_link.specs.Mem.{event}
 use Rattle.vhost_link.specs.declared.plain.PlainHandle.{PlainHandle}
-use Rattle.vhost_endpoint.specs.Hearing.{Fails}
-use Rattle.vhost_endpoint.specs.Memory.{stream}
-use Rattle.vhost_endpoint.specs.Talk.{State}
+use Rattle.vhost_connection.specs.Hearing.{Fails}
+use Rattle.vhost_connection.specs.Memory.{stream}
+use Rattle.vhost_connection.specs.Talk.{State}
 use Rattle.vhost_gpu_backend_req.specs.Asking.{read_as}
 use Rattle.vhost_gpu_backend_req.specs.Channel as link
 use Rattle.vhost_gpu_backend_req.specs.Channel.{channel}

@@ -1,5 +1,5 @@
 -- What the calls of a frontend's session do: requests that it reads, the calls that they become, and what is replied.
-use Rattle.std.specs.Prelude.{◌≡◌, ◌<◌, ◌^◌, ◌==◌, ◌||◌, nat_lt, ℕ, ℤ, Bool, true, false, List, ◌++◌, Contains, Option, Some, None, Result, Ok, Err, ⊤, is_some, ok_or, if◌then◌else◌}
+use Rattle.std.specs.Prelude.{◌≡◌, ◌<◌, ◌^◌, ◌==◌, ◌||◌, nat_lt, ℕ, ℤ, Bool, true, false, List, ◌++◌, Contains, Option, Some, None, Result, Ok, Err, IfErr, ⊤, is_some, ok_or, if◌then◌else◌}
 use Rattle.vhost_message.specs.BackendReq.{backend_request_of}
 use Rattle.vhost_message.specs.declared.backend_req.BackendReq.{BackendReq}
 use Rattle.vhost_message.specs.declared.error.Error as declared
@@ -13,9 +13,9 @@ use Rattle.vhost_protocol.specs.Stream.{Cell}
 use Rattle.vhost_link.specs.Ends.{Ends}
 use Rattle.vhost_link.specs.Mem.{event}
 use Rattle.vhost_link.specs.declared.plain.PlainHandle.{PlainHandle}
-use Rattle.vhost_endpoint.specs.Memory.{stream}
-use Rattle.vhost_endpoint.specs.Requests.{IsReady, Stops}
-use Rattle.vhost_endpoint.specs.declared.request.Request as code
+use Rattle.vhost_connection.specs.Memory.{stream}
+use Rattle.vhost_connection.specs.Requests.{IsReady, Stops}
+use Rattle.vhost_connection.specs.declared.request.Request as code
 use Rattle.vhost_frontend_req_handler.specs.Calling.{call_in}
 use Rattle.vhost_frontend_req_handler.specs.Core.{endpoint_of, server_in, number_cells}
 use Rattle.vhost_frontend_req_handler.specs.Halves.{Refuses}
@@ -172,6 +172,7 @@ pub record Tells {A : Type 0} (of : FrontendSideCall PlainHandle → Option A) (
 pub record PutsInto (s : ChannelServer) (before after : List ℕ) (outcome : Result ⊤ Refusal) : Type 0 where
   pub one : (m : Request) (c : FrontendSideCall PlainHandle) → IsServed m c s → PutsName c before after outcome
   pub none : has_call s ≡ false → (outcome ≡ Err OtherCall) × (after ≡ before)
+  pub refused : IfErr outcome (λ r. after ≡ before)
 
 -- the same of calls of C, which put it at places and leave the session as it is
 abbrev pub Telling : {A : Type 0} → (FrontendSideCall PlainHandle → Option A) → A → ChannelServer → Result ⊤ Refusal → ChannelServer → Type 0

@@ -10,7 +10,7 @@ use vhost_backend_req::{Asked, BackendInternal, ReverseCall};
 use vhost_c_common::{
     Held, Incoming, Outgoing, Refusal, carry_out, empty, forget_sent, hand_out, receive,
 };
-use vhost_endpoint::talks_law;
+use vhost_connection::talks_law;
 use vhost_link::{MemLink, PlainHandle};
 use vhost_message::{
     BackendReq, Error, IoError, MAX_ATTACHED_FD_ENTRIES, VhostUserMsgHeader,
@@ -150,6 +150,7 @@ impl Channel {
         ensures out { IfOk result (λ n. HandsOut (queued self.old) (queued self.new) bytes.new fds.new n) }
         ensures reason { IfErr result (λ r. HandsNone bytes.new fds.new r) }
         ensures refused { IfErr result (λ _. queued self.new ≡ queued self.old) }
+        ensures untouched { IfErr result (λ _. (bytes.new ≡ bytes.old) × (fds.new ≡ fds.old)) }
         ensures rest { Hands (view self.old) (view self.new) }
         ensures held { self.new.held ≡ self.old.held }
     {

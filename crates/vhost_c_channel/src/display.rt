@@ -9,7 +9,7 @@ use std::alloc::Global;
 use vhost_c_common::{
     Held, Incoming, Outgoing, Refusal, carry_out, empty, forget_sent, hand_out, receive,
 };
-use vhost_endpoint::talks_law;
+use vhost_connection::talks_law;
 use vhost_gpu_backend_req::{Awaited, BackendInternal, GpuCall};
 use vhost_gpu_message::{VirtioGpuRespDisplayInfo, VirtioGpuRespGetEdid};
 use vhost_link::{MemLink, PlainHandle};
@@ -119,6 +119,7 @@ impl Display {
         ensures out { IfOk result (λ n. HandsOut (queued self.old) (queued self.new) bytes.new fds.new n) }
         ensures reason { IfErr result (λ r. HandsNone bytes.new fds.new r) }
         ensures refused { IfErr result (λ _. queued self.new ≡ queued self.old) }
+        ensures untouched { IfErr result (λ _. (bytes.new ≡ bytes.old) × (fds.new ≡ fds.old)) }
         ensures rest { Hands (view self.old) (view self.new) }
         ensures held { self.new.held ≡ self.old.held }
     {

@@ -9,7 +9,7 @@ use crate::arguments::{fd_of_call, mmap_of, number_of_call, put_name};
 use crate::records::Mmap;
 use std::alloc::Global;
 use vhost_c_common::{Held, Incoming, Outgoing, Refusal, empty, hand_out, receive};
-use vhost_endpoint::talks_law;
+use vhost_connection::talks_law;
 use vhost_frontend_req_handler::{FrontendReqCore, FrontendSideCall};
 use vhost_link::{MemLink, PlainHandle};
 use vhost_message::{BackendReq, Error, HandlerResult, MAX_ATTACHED_FD_ENTRIES, MSG_HEADER_SIZE};
@@ -133,6 +133,7 @@ impl ChannelServer {
         ensures out { IfOk result (λ n. HandsOut (queued self.old) (queued self.new) bytes.new fds.new n) }
         ensures reason { IfErr result (λ r. HandsNone bytes.new fds.new r) }
         ensures refused { IfErr result (λ _. queued self.new ≡ queued self.old) }
+        ensures untouched { IfErr result (λ _. (bytes.new ≡ bytes.old) × (fds.new ≡ fds.old)) }
         ensures rest { Hands (view self.old) (view self.new) }
         ensures held { self.new.held ≡ self.old.held }
     {

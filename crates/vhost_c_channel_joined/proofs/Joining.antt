@@ -12,7 +12,7 @@ use Rattle.vhost_protocol.specs.ReverseLaws.{IsAnswered}
 use Rattle.vhost_protocol.specs.Written.{written_cells}
 use Rattle.vhost_link.specs.Ends.{Ends}
 use Rattle.vhost_link.specs.declared.plain.PlainHandle.{PlainHandle}
-use Rattle.vhost_endpoint.specs.Memory.{stream}
+use Rattle.vhost_connection.specs.Memory.{stream}
 use Rattle.vhost_backend_req.specs.Channel as link
 use Rattle.vhost_backend_req.specs.Channel.{backend_of}
 use Rattle.vhost_frontend_req_handler.specs.Core as core

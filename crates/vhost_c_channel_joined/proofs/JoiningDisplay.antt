@@ -18,7 +18,7 @@ use Rattle.vhost_link.proofs.Cells.{plain-is, length-carrying}
 use Rattle.vhost_link.specs.Ends.{Ends}
 use Rattle.vhost_link.specs.Mem.{event}
 use Rattle.vhost_link.specs.declared.plain.PlainHandle.{PlainHandle}
-use Rattle.vhost_endpoint.specs.Memory.{stream}
+use Rattle.vhost_connection.specs.Memory.{stream}
 use Rattle.vhost_gpu_backend_req.specs.Channel as link
 use Rattle.vhost_gpu_backend_req.specs.Halves.{FrontUnsent, NotReady, Keeps, call_in, pixels_of, not_ready, stopped, refused, too_long}
 use Rattle.vhost_gpu_backend_req.specs.Halves as halves

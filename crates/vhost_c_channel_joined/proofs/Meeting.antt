@@ -16,9 +16,9 @@ use Rattle.vhost_protocol.specs.Stream.{Cell}
 use Rattle.vhost_protocol.specs.Written.{U64}
 use Rattle.vhost_link.specs.Mem.{event}
 use Rattle.vhost_link.specs.declared.plain.PlainHandle.{PlainHandle}
-use Rattle.vhost_endpoint.specs.Memory.{stream, TalksLaw}
-use Rattle.vhost_endpoint.specs.Requests.{Stops}
-use Rattle.vhost_endpoint.specs.Serving.{Handled, Breaks, unread, unanswered}
+use Rattle.vhost_connection.specs.Memory.{stream, TalksLaw}
+use Rattle.vhost_connection.specs.Requests.{Stops}
+use Rattle.vhost_connection.specs.Serving.{Handled, Breaks, unread, unanswered}
 use Rattle.vhost_frontend_req_handler.specs.Calling.{call_in}
 use Rattle.vhost_frontend_req_handler.specs.Core.{endpoint_of, number_cells, server_in}
 use Rattle.vhost_frontend_req_handler.specs.Halves.{uncalled}

@@ -10,9 +10,9 @@ use Rattle.vhost_protocol.specs.Split.{split}
 use Rattle.vhost_protocol.specs.Stream.{Cell, plain}
 use Rattle.vhost_link.specs.Ends.{Ends}
 use Rattle.vhost_link.specs.declared.plain.PlainHandle.{PlainHandle}
-use Rattle.vhost_endpoint.specs.Memory.{TalksLaw, stream}
-use Rattle.vhost_endpoint.specs.Talk.{State}
-use Rattle.vhost_endpoint.specs.declared.request.Request as code
+use Rattle.vhost_connection.specs.Memory.{TalksLaw, stream}
+use Rattle.vhost_connection.specs.Talk.{State}
+use Rattle.vhost_connection.specs.declared.request.Request as code
 use Rattle.vhost_frontend_req_handler.specs.Core.{endpoint_of, number_cells}
 use Rattle.vhost_frontend_req_handler.specs.Halves.{uncalled}
 use Rattle.vhost_frontend_req_handler.specs.Handling.{fitting, kept}

@@ -25,7 +25,7 @@ use Rattle.vhost_protocol.proofs.ReplyLaws.{plain-append, reply-rest}
 use Rattle.vhost_protocol.proofs.TextLaws.{length-plain}
 use Rattle.vhost_link.proofs.Cells.{plain-is}
 use Rattle.vhost_link.specs.declared.plain.PlainHandle.{PlainHandle}
-use Rattle.vhost_endpoint.specs.Memory.{stream}
+use Rattle.vhost_connection.specs.Memory.{stream}
 use Rattle.vhost_gpu_backend_req.specs.Halves.{Keeps, call_in, reply_in}
 use Rattle.vhost_gpu_backend_req.specs.declared.call.Awaited.{Awaited}
 use Rattle.vhost_gpu_backend_req.specs.declared.call.GpuCall as gpu

@@ -10,7 +10,7 @@ use Rattle.vhost_protocol.specs.Stream.{Cell}
 use Rattle.vhost_protocol.specs.Written.{Written, Empty, written_cells}
 use Rattle.vhost_link.specs.Ends.{Ends}
 use Rattle.vhost_link.specs.declared.plain.PlainHandle.{PlainHandle}
-use Rattle.vhost_endpoint.specs.Talk.{State}
+use Rattle.vhost_connection.specs.Talk.{State}
 use Rattle.vhost_backend_req.specs.Channel as link
 use Rattle.vhost_backend_req.specs.Channel.{backend_of}
 use Rattle.vhost_c_common.proofs.Wanting.{is-uncut, wants}

@@ -22,7 +22,7 @@ use Rattle.vhost_protocol.specs.Served.{Silent, Replied}
 use Rattle.vhost_protocol.specs.Stream.{Cell, bytes}
 use Rattle.vhost_protocol.specs.Written.{U64, Written, head_of, header_flags, reply_to as to_reply, written_text}
 use Rattle.vhost_link.specs.declared.plain.PlainHandle.{PlainHandle}
-use Rattle.vhost_endpoint.specs.Memory.{stream}
+use Rattle.vhost_connection.specs.Memory.{stream}
 use Rattle.vhost_c_common.proofs.Wanting.{is-uncut, wants}
 use Rattle.vhost_c_common.proofs.Wants.{failed}
 use Rattle.vhost_c_common.specs.Incoming.{missing_in}

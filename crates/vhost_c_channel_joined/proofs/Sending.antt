@@ -18,8 +18,8 @@ use Rattle.vhost_protocol.specs.Written.{Payload, head_of, payload_text, written
 use Rattle.vhost_protocol.proofs.TextLaws.{sendable-valid, written-split}
 use Rattle.vhost_link.specs.declared.plain.PlainHandle.{PlainHandle}
 use Rattle.vhost_link.specs.Mem.{event}
-use Rattle.vhost_endpoint.specs.Hearing.{Fails}
-use Rattle.vhost_endpoint.specs.Memory.{stream}
+use Rattle.vhost_connection.specs.Hearing.{Fails}
+use Rattle.vhost_connection.specs.Memory.{stream}
 use Rattle.vhost_c_common.proofs.OnWay.{empty-parts}
 use Rattle.vhost_c_common.proofs.Wanting.{is-uncut, wants}
 use Rattle.vhost_c_common.proofs.Wants.{failed}

@@ -20,7 +20,7 @@ use std::collections::VecDeque;
 use vhost_backend_req::ReverseCall;
 use vhost_c_channel::{Channel, ChannelServer, Feature};
 use vhost_c_common::Refusal;
-use vhost_endpoint::talks_law;
+use vhost_connection::talks_law;
 use vhost_link::PlainHandle;
 use vhost_message::{Error, HandlerResult};
 

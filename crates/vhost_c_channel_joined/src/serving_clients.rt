@@ -9,7 +9,7 @@ ghost use Rattle.vhost_c_channel_joined.specs.Clients.{acknowledgement, acknowle
 use std::alloc::Global;
 use vhost_c_channel::ChannelServer;
 use vhost_c_common::Refusal;
-use vhost_endpoint::talks_law;
+use vhost_connection::talks_law;
 
 type Outcome<T> = std::result::Result<T, Refusal>;
 

@@ -6,10 +6,10 @@ use Rattle.vhost_protocol.specs.Stream.{Cell, Item, End, items, heard}
 use Rattle.vhost_link.specs.Ends.{Ends}
 use Rattle.vhost_link.specs.Mem.{event, HandsFront}
 use Rattle.vhost_link.specs.declared.plain.PlainHandle.{PlainHandle}
-use Rattle.vhost_endpoint.specs.Hearing.{Hears}
-use Rattle.vhost_endpoint.specs.Memory.{stream, TalksLaw}
-use Rattle.vhost_endpoint.specs.Requests.{Replies}
-use Rattle.vhost_endpoint.specs.Talk.{State}
+use Rattle.vhost_connection.specs.Hearing.{Hears}
+use Rattle.vhost_connection.specs.Memory.{stream, TalksLaw}
+use Rattle.vhost_connection.specs.Requests.{Replies}
+use Rattle.vhost_connection.specs.Talk.{State}
 
 -- where nothing was handed out, all is left
 pub none-handed : {H : Type 0} (before left : List (Cell H)) → HandsFront before [] left → left ≡ before

@@ -8,8 +8,8 @@ use Rattle.vhost_link.specs.declared.plain.PlainHandle.{PlainHandle}
 use Rattle.vhost_link.specs.Ends.{Ends, Carried}
 use Rattle.vhost_protocol.specs.Stream.{Cell, carrying, has_some, plain}
 use Rattle.vhost_link.proofs.Cells.{plain-is}
-use Rattle.vhost_endpoint.specs.Memory.{stream}
-use Rattle.vhost_endpoint.specs.Talk.{State}
+use Rattle.vhost_connection.specs.Memory.{stream}
+use Rattle.vhost_connection.specs.Talk.{State}
 use Rattle.vhost_c_common.specs.Carrying.{Collects, Gives, emptied}
 use Rattle.vhost_c_common.specs.Incoming.{Adds}
 use Rattle.vhost_c_common.specs.Records.{handle_in}
@@ -104,6 +104,7 @@ handed out out' old new i rest bytes fds n none same h is =
     let none' : out'.link.pending ≡ [] = ap {A = Ends} (λ l. l.pending) same ∙ none in (
       record {
         handles = h.handles;
+        fits = h.fits;
         piece = ap (λ cells. cells ++ old.link.sent) none ∙ h.piece ∙ ap (λ cells. carrying h.handles (take n.0 bytes) ++ (cells ++ new.link.sent)) (sym none');
         fds_at = h.fds_at;
         fd_count = h.fd_count;

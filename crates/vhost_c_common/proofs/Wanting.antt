@@ -14,9 +14,9 @@ use Rattle.vhost_protocol.specs.Stream.{Cell, carrying, plain}
 use Rattle.vhost_link.proofs.Cells.{plain-is}
 use Rattle.vhost_link.specs.Mem.{event}
 use Rattle.vhost_link.specs.declared.plain.PlainHandle.{PlainHandle}
-use Rattle.vhost_endpoint.specs.Hearing.{Hears}
-use Rattle.vhost_endpoint.specs.Memory.{TalksLaw, stream}
-use Rattle.vhost_endpoint.specs.Serving.{HandlesOne, unanswered, unread}
+use Rattle.vhost_connection.specs.Hearing.{Hears}
+use Rattle.vhost_connection.specs.Memory.{TalksLaw, stream}
+use Rattle.vhost_connection.specs.Serving.{HandlesOne, unanswered, unread}
 use Rattle.vhost_c_common.proofs.Hearing.{hears-cut}
 use Rattle.vhost_c_common.proofs.Wants.{IsWant, list_away, by_link, broke_before, troubled}
 use Rattle.vhost_c_common.specs.Incoming.{Adds, missing_by}

@@ -14,10 +14,10 @@ use Rattle.vhost_link.specs.Law.{Refused, Move, Moved}
 use Rattle.vhost_link.specs.Mem.{event}
 use Rattle.vhost_link.specs.declared.cut.Cut.{Cut}
 use Rattle.vhost_link.specs.declared.plain.PlainHandle.{PlainHandle}
-use Rattle.vhost_endpoint.specs.Talk as talk
-use Rattle.vhost_endpoint.specs.Talk.{Growth, Serves, Trouble, has_moved}
-use Rattle.vhost_endpoint.specs.Hearing.{Fails, was_broken, no_memory, fault}
-use Rattle.vhost_endpoint.specs.Requests.{Stops}
+use Rattle.vhost_connection.specs.Talk as talk
+use Rattle.vhost_connection.specs.Talk.{Growth, Serves, Trouble, has_moved}
+use Rattle.vhost_connection.specs.Hearing.{Fails, was_broken, no_memory, fault}
+use Rattle.vhost_connection.specs.Requests.{Stops}
 use Rattle.vhost_protocol.specs.Stream.{Cell}
 use Rattle.vhost_c_common.specs.View.{End, IsUncut, Lasts, StaysSound}
 

@@ -9,9 +9,9 @@ use Rattle.vhost_message.specs.declared.limits.TheConstants.{MAX_ATTACHED_FD_ENT
 use Rattle.vhost_protocol.specs.Stream.{Cell}
 use Rattle.vhost_link.specs.Ends.{Ends, empty}
 use Rattle.vhost_link.specs.declared.plain.PlainHandle.{PlainHandle}
-use Rattle.vhost_endpoint.specs.Memory.{stream}
-use Rattle.vhost_endpoint.specs.State.{fresh}
-use Rattle.vhost_endpoint.specs.Talk.{State}
+use Rattle.vhost_connection.specs.Memory.{stream}
+use Rattle.vhost_connection.specs.State.{fresh}
+use Rattle.vhost_connection.specs.Talk.{State}
 use Rattle.vhost_c_common.specs.Incoming.{Adds}
 use Rattle.vhost_c_common.specs.Moving.{HandsOut, TakesIn}
 use Rattle.vhost_c_common.specs.Records.{handle_in}

@@ -4,8 +4,8 @@ ghost use Rattle.std.specs.Prelude.{◌≡◌, ◌<◌, ◌≤◌, ◌++◌, [],
 ghost use Rattle.vhost_message.specs.declared.error.Error.TheVariants.{OutOfMemory};
 ghost use Rattle.vhost_message.specs.declared.limits.TheConstants.{MAX_ATTACHED_FD_ENTRIES};
 ghost use Rattle.vhost_protocol.specs.Stream.{carrying};
-ghost use Rattle.vhost_endpoint.specs.Memory.{stream};
-ghost use Rattle.vhost_endpoint.specs.State.{state};
+ghost use Rattle.vhost_connection.specs.Memory.{stream};
+ghost use Rattle.vhost_connection.specs.State.{state};
 ghost use Rattle.vhost_c_common.specs.Carrying.{Collects, Gives, emptied};
 ghost use Rattle.vhost_c_common.specs.Moving.{HandsOut, TakesIn};
 ghost use Rattle.vhost_c_common.specs.View.{GivesNone, bare};
@@ -13,7 +13,7 @@ ghost use Rattle.vhost_c_common.specs.View.{GivesNone, bare};
 use crate::outgoing::Outgoing;
 use crate::records::handles_of;
 use std::alloc::Global;
-use vhost_endpoint::Endpoint;
+use vhost_connection::Endpoint;
 use vhost_link::{MemLink, PlainHandle};
 use vhost_message::{Error, MAX_ATTACHED_FD_ENTRIES, MsgHeader, Result};
 

@@ -1,10 +1,10 @@
 //! How much came of the message that is awaited.
 
 use vhost_message::{
-    ByteValued, FrontendReq, MAX_MSG_SIZE, MSG_HEADER_SIZE, MsgHeader, Req, VhostUserMsgHeader,
+    ByteValued, HeardReq, MAX_MSG_SIZE, MSG_HEADER_SIZE, MsgHeader, Req, VhostUserMsgHeader,
 };
 
-type Header = VhostUserMsgHeader<FrontendReq>;
+type Header = VhostUserMsgHeader<HeardReq>;
 
 /// How much came of the message that is awaited: its header, as far as that came, and how many bytes in all.
 #[derive(Drop, Clone, Copy)]

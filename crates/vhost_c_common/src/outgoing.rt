@@ -5,7 +5,7 @@ ghost use Rattle.vhost_message.specs.declared.limits.TheConstants.{MAX_ATTACHED_
 
 use crate::records::put_fds;
 use std::alloc::{AllocError, Global};
-use vhost_endpoint::Endpoint;
+use vhost_connection::Endpoint;
 use vhost_link::{Link, MemLink, PlainHandle};
 use vhost_message::{MAX_ATTACHED_FD_ENTRIES, MsgHeader};
 
@@ -20,7 +20,7 @@ pub struct Outgoing {
 
 impl Outgoing {
     ghost use Rattle.std.specs.Prelude.{◌≡◌, ◌<◌, ◌≤◌, [], length, IfOk};
-    ghost use Rattle.vhost_endpoint.specs.State.{state};
+    ghost use Rattle.vhost_connection.specs.State.{state};
     ghost use Rattle.vhost_c_common.specs.Moving.{HandsOut};
 
     /// Nothing is to be sent.

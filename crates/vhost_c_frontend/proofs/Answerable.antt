@@ -12,7 +12,7 @@ use Rattle.vhost_protocol.specs.contracts.asked.Awaited as awaited
 use Rattle.vhost_protocol.specs.declared.asked.Awaited.{Awaited}
 use Rattle.vhost_protocol.specs.declared.asked.Awaited.TheVariants.{Nobody, Ack, Reply}
 use Rattle.vhost_protocol.specs.declared.asked.Shape.{Shape}
-use Rattle.vhost_protocol.specs.FrontendCall.{FrontendCall, GetFeatures, GetProtocolFeatures, GetQueueNum, SetMemTable, SetLogBase, GetVringBase, GetConfig, GetSharedObject, GetInflightFd, GetMaxMemSlots, AddMemRegion, GetShmemConfig, SetDeviceStateFd, CheckDeviceState, PostcopyAdvise, PostcopyEnd, PostcopyAckMemRegions}
+use Rattle.vhost_protocol.specs.FrontendCall.{FrontendCall, GetFeatures, SetMemTable, GetConfig, AddMemRegion, GetShmemConfig}
 use Rattle.vhost_link.specs.declared.plain.PlainHandle.{PlainHandle}
 use Rattle.vhost_frontend_core.specs.Awaiting.{MayAwait}
 use Rattle.vhost_frontend_core.specs.Kept.{IsKeptFor, KeepsTable, KeepsConfig, KeepsPlace}
@@ -42,25 +42,11 @@ IsAck-prop (Reply s) = ⊥_prop
 ack_or-prop : (a : Awaited) (s : Shape) → IsProp (IsAck a ⊎ (a ≡ Reply s))
 ack_or-prop a s = apart_prop (IsAck-prop a) (awaited-set a (Reply s)) (λ ack is. subst IsAck is ack)
 
+ruleset awaiting = (awaited-set, ack_or-prop, IsAck-prop)
+
 MayAwait-prop : (call : Call) (a : Awaited) → IsProp (MayAwait call a)
 MayAwait-prop GetFeatures a = awaited-set a _
-MayAwait-prop GetProtocolFeatures a = awaited-set a _
-MayAwait-prop GetQueueNum a = awaited-set a _
-MayAwait-prop (SetMemTable infos) a = ack_or-prop a _
-MayAwait-prop (SetLogBase base region) a = ack_or-prop a _
-MayAwait-prop (GetVringBase i) a = awaited-set a _
-MayAwait-prop (GetConfig offset size flags buffer) a = awaited-set a _
-MayAwait-prop (GetSharedObject name) a = awaited-set a _
-MayAwait-prop (GetInflightFd area) a = awaited-set a _
-MayAwait-prop GetMaxMemSlots a = awaited-set a _
-MayAwait-prop (AddMemRegion info) a = ack_or-prop a _
-MayAwait-prop GetShmemConfig a = awaited-set a _
-MayAwait-prop (SetDeviceStateFd t h) a = awaited-set a _
-MayAwait-prop CheckDeviceState a = awaited-set a _
-MayAwait-prop PostcopyAdvise a = awaited-set a _
-MayAwait-prop PostcopyEnd a = ack_or-prop a _
-MayAwait-prop (PostcopyAckMemRegions r) a = awaited-set a _
-MayAwait-prop _ a = IsAck-prop a
+MayAwait-prop _ a = search awaiting
 
 KeepsTable-prop : (regions : List VhostUserMemoryRegion) (k : Kept) → IsProp (KeepsTable regions k)
 KeepsTable-prop regions (kept.Table t) = Coded-set (coded_list region.the_row.coded) _ _

@@ -3,8 +3,8 @@ use Rattle.std.proofs.Common.{◌≡◌, inl, inr, ℕ, true, false, List, [], �
 use Rattle.std.proofs.lemmas.List.{append-nil}
 use Rattle.vhost_message.specs.declared.error.Error as declared
 use Rattle.vhost_message.specs.declared.error.Error.TheVariants.{OutOfMemory}
-use Rattle.vhost_message.specs.declared.frontend_req.FrontendReq.{FrontendReq}
-use Rattle.vhost_message.specs.FrontendReq.{request_number}
+use Rattle.vhost_message.specs.declared.heard_req.HeardReq.{HeardReq}
+use Rattle.vhost_message.specs.HeardReq.{request_number}
 use Rattle.vhost_message.specs.MsgHeader.{fields_of}
 use Rattle.vhost_protocol.specs.Ask.{ask, Sends}
 use Rattle.vhost_protocol.specs.declared.asked.Awaited.{Awaited}
@@ -14,8 +14,8 @@ use Rattle.vhost_protocol.specs.Written.{Written, written_cells, head_of}
 use Rattle.vhost_link.specs.Ends.{Ends}
 use Rattle.vhost_link.specs.Mem.{event, HandsFront, StreamLaw}
 use Rattle.vhost_link.specs.declared.plain.PlainHandle.{PlainHandle}
-use Rattle.vhost_endpoint.specs.Memory.{stream, TalksLaw}
-use Rattle.vhost_endpoint.specs.Talk.{State}
+use Rattle.vhost_connection.specs.Memory.{stream, TalksLaw}
+use Rattle.vhost_connection.specs.Talk.{State}
 use Rattle.vhost_frontend_core.specs.Asking as core
 use Rattle.vhost_frontend_core.specs.Asking.{AsksWithRoom, roomy, no_room, goes, fails}
 use Rattle.vhost_frontend_core.specs.Frontend.{endpoint_of, session_of, awaits}
@@ -33,12 +33,12 @@ use Rattle.vhost_c_common.proofs.Wants.{IsWant, list_away, by_link, broke_before
 abbrev pub Front : Type 0
 Front = FrontendInternal Ends PlainHandle
 
-abbrev pub cells : Written FrontendReq PlainHandle → List (Cell PlainHandle)
+abbrev pub cells : Written HeardReq PlainHandle → List (Cell PlainHandle)
 cells w = written_cells request_number w
 
 -- A request that went out is behind what was sent before, and this was kept of it.
 pub record Went (call : FrontendCall PlainHandle) (f : Frontend) (s : Sent) (old new : State Ends PlainHandle) (after : Awaited) (f' : Frontend) : Type 0 where
-  pub w : Written FrontendReq PlainHandle
+  pub w : Written HeardReq PlainHandle
   pub is : ask f call ≡ Sends w after f'
   pub text : new.link.sent ≡ old.link.sent ++ cells w
   pub header : fields_of s.request ≡ head_of request_number w
@@ -78,7 +78,7 @@ stayed call old new f f' before after e (roomy (fails is why)) = refl
 stayed call old new f f' before after e (no_room is) = refl
 
 module _ (call : FrontendCall PlainHandle) (s : Session) where
-  wanted : {w : Written FrontendReq PlainHandle} {awaited : Awaited} {f : Frontend} (e : declared.Error) → ask (remembers s) call ≡ Sends w awaited f → IsWant (endpoint_of s.frontend) e → Fails call s e
+  wanted : {w : Written HeardReq PlainHandle} {awaited : Awaited} {f : Frontend} (e : declared.Error) → ask (remembers s) call ≡ Sends w awaited f → IsWant (endpoint_of s.frontend) e → Fails call s e
   wanted _ is (list_away list) = session.no_list list
   wanted _ is by_link = session.no_request is
   wanted _ is (broke_before broken) = session.was_broken broken
@@ -88,7 +88,7 @@ module _ (call : FrontendCall PlainHandle) (s : Session) where
   may-want new (inr (list, same)) = session.no_list list
 
   by-cause : StreamLaw → (old new : State Ends PlainHandle) (f' : Frontend) (before after : Awaited) (e : declared.Error) → IsUncut old → (e ≡ OutOfMemory → Fails call s OutOfMemory)
-      → ((w : Written FrontendReq PlainHandle) (awaited : Awaited) (f : Frontend) → ask (remembers s) call ≡ Sends w awaited f → IsWant old e → Fails call s e)
+      → ((w : Written HeardReq PlainHandle) (awaited : Awaited) (f : Frontend) → ask (remembers s) call ≡ Sends w awaited f → IsWant old e → Fails call s e)
       → AsksWithRoom event (ask (remembers s) call) old (remembers s) before (Err e) new f' after → Fails call s e
   by-cause law old new f' before after e uncut wants by (roomy (core.refuses is)) = session.refused is
   by-cause law old new f' before after e uncut wants by (roomy (fails is why)) = by _ _ _ is (failed old new false e why uncut).1

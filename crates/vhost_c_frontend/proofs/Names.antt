@@ -8,19 +8,18 @@ use Rattle.vhost_message.specs.declared.records.config.VhostUserConfig.{VhostUse
 use Rattle.vhost_message.specs.declared.records.inflight.VhostUserInflight.{VhostUserInflight}
 use Rattle.vhost_message.specs.Bits.{has_bit}
 use Rattle.vhost_message.specs.Header.{Header, header_of}
-use Rattle.vhost_message.specs.Valid.{is_valid_inflight}
 use Rattle.vhost_message.specs.Records.{u64_at}
 use Rattle.vhost_protocol.specs.AnswerTable.{Answered, answered, plain_value, alone, with_one, one_or_none, only_if, config_reply, state_reply, inflight_reply, end_reply, changed, from_reply, answer}
 use Rattle.vhost_protocol.specs.Ask.{config}
 use Rattle.vhost_protocol.specs.Error.{Error, InvalidParam, InvalidMessage, PartialMessage, BackendInternalError}
-use Rattle.vhost_protocol.specs.FrontendCall.{FrontendCall, GetFeatures, GetProtocolFeatures, GetQueueNum, SetMemTable, SetLogBase, GetVringBase, GetConfig, GetSharedObject, GetInflightFd, GetMaxMemSlots, AddMemRegion, GetShmemConfig, SetDeviceStateFd, CheckDeviceState, PostcopyAdvise, PostcopyEnd, Value, Nothing, Number, ConfigOf, HandleOf, InflightOf, StateHandle, Frontend}
+use Rattle.vhost_protocol.specs.FrontendCall.{FrontendCall, GetQueueNum, SetMemTable, GetConfig, AddMemRegion, Value, Nothing, Number, ConfigOf, InflightOf, StateHandle, Frontend}
 use Rattle.vhost_protocol.specs.ReplySplit.{Received, received, reply_split, bare_or_reply, not_bare, is_bare_reply, whole_split, has_size, has_config_size, is_right, apart, parted, then_made, is_empty_reply, parted_or_none}
 use Rattle.vhost_protocol.specs.Served.{Acknowledged}
 use Rattle.vhost_protocol.specs.Session.{is_listen}
 use Rattle.vhost_protocol.specs.Split.{Splits}
 use Rattle.vhost_protocol.specs.Stream.{Cell, Item, End, items, heard, first_handles, bytes, is_shorter}
 use Rattle.vhost_protocol.specs.Take.{is_known, answers, is_sized, is_valid_record, record_size, payload_of, room, reply_cut, config_cut, understood, understood_ack, understood_config, take, take_reply, take_config}
-use Rattle.vhost_protocol.specs.Written.{Payload, Empty, U64, Regions, OneRegion, Shmem, RingState, ConfigBytes, InflightArea, LogArea}
+use Rattle.vhost_protocol.specs.Written.{Payload, Empty, U64, ConfigBytes}
 use Rattle.vhost_protocol.specs.declared.asked.Awaited.{Awaited}
 use Rattle.vhost_protocol.specs.declared.profile.Profile.{Profile}
 use Rattle.vhost_protocol.specs.declared.profile.Profile.TheVariants.{Vhost, Standard}
@@ -30,8 +29,8 @@ use Rattle.vhost_protocol.specs.declared.asked.Shape.TheVariants as shape
 use Rattle.vhost_link.specs.Ends.{Ends}
 use Rattle.vhost_link.specs.Mem.{HandsFront}
 use Rattle.vhost_link.specs.declared.plain.PlainHandle.{PlainHandle}
-use Rattle.vhost_endpoint.specs.Memory.{stream, TalksLaw}
-use Rattle.vhost_endpoint.specs.Talk.{State}
+use Rattle.vhost_connection.specs.Memory.{stream, TalksLaw}
+use Rattle.vhost_connection.specs.Talk.{State}
 use Rattle.vhost_frontend_core.specs.Taking.{unread, read}
 use Rattle.vhost_frontend_core.specs.ValueHalves.{TakesResult}
 use Rattle.vhost_c_frontend.specs.Names.{handles_of, Names}
@@ -101,24 +100,16 @@ module _ {H : Type 0} where
   area-named hs true r n = n
   area-named hs false r n = tt
 
+  nothing-named : (came : List H) (v : Value H) → handles_of v ≡ [] → Names came (Ok v)
+  nothing-named came v is = inl is
+
+  ruleset replies = (nothing-named, changed-named, alone-named, only-named, perhaps-named, area-named, inflight-named, state-named, end-named)
+
   reply-named : (call : FrontendCall H) (f : Frontend) (payload : Payload) (hs : List H) → SomeNames hs (from_reply call f payload hs)
-  reply-named GetFeatures f (U64 n) hs = changed-named hs f _ _ (alone-named hs hs _ (inl refl))
-  reply-named GetProtocolFeatures f (U64 n) hs = alone-named hs hs _ (inl refl)
-  reply-named GetQueueNum f (U64 n) hs = queues-named f n hs (nat_le n VHOST_USER_MAX_VRINGS)
-  reply-named (SetMemTable infos) f (Regions rs) hs = alone-named hs hs _ (only-named hs _ _ _ (inl refl))
-  reply-named (SetLogBase base region) f (LogArea l) hs = alone-named hs hs _ (only-named hs _ _ _ (inl refl))
-  reply-named (GetVringBase i) f (RingState v) hs = alone-named hs hs _ (inl refl)
   reply-named (GetConfig offset size flags buffer) f (ConfigBytes c bs) hs = config-named (config offset size flags) buffer hs c bs
-  reply-named (GetSharedObject name) f Empty hs = perhaps-named f hs HandleOf (λ h. refl)
-  reply-named (GetInflightFd asked) f (InflightArea i) hs = area-named hs (is_valid_inflight i) _ (inflight-named f i hs)
-  reply-named GetMaxMemSlots f (U64 n) hs = alone-named hs hs _ (inl refl)
-  reply-named (AddMemRegion info) f (OneRegion r) hs = alone-named hs hs _ (only-named hs _ _ _ (inl refl))
-  reply-named GetShmemConfig f (Shmem c) hs = alone-named hs hs _ (inl refl)
-  reply-named (SetDeviceStateFd t h) f (U64 n) hs = state-named n hs
-  reply-named CheckDeviceState f (U64 n) hs = alone-named hs hs _ (only-named hs _ _ _ (inl refl))
-  reply-named PostcopyAdvise f Empty hs = changed-named hs f _ _ (perhaps-named f hs HandleOf (λ h. refl))
-  reply-named PostcopyEnd f (U64 n) hs = end-named f n hs
-  reply-named _ f payload hs = tt
+  reply-named GetQueueNum f (U64 n) hs = queues-named f n hs (nat_le n VHOST_USER_MAX_VRINGS)
+  reply-named _ f Empty hs = search replies
+  reply-named _ f payload hs = search replies
 
   -- ---- what was received
 

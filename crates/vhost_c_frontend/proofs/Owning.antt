@@ -2,12 +2,12 @@
 use Rattle.std.proofs.Common.{◌≡◌, ◌+◌, ℕ, suc, true, false, List, [], ◌++◌, None, Some, Result, Ok, Err, inl, inr, refl, sym, ap, subst, ◌∙◌, append_assoc, arith}
 use Rattle.std.specs.Prelude.{⊤, is_some}
 use Rattle.std.proofs.lemmas.List.{append-nil}
-use Rattle.vhost_message.specs.FrontendReq.{request_number}
+use Rattle.vhost_message.specs.HeardReq.{request_number}
 use Rattle.vhost_message.specs.Header.{Header, header_of}
 use Rattle.vhost_message.specs.MsgHeader.{fields_of}
 use Rattle.vhost_message.specs.declared.error.Error as declared
-use Rattle.vhost_message.specs.declared.frontend_req.FrontendReq.{FrontendReq}
-use Rattle.vhost_message.specs.declared.frontend_req.FrontendReq.TheVariants.{SET_OWNER}
+use Rattle.vhost_message.specs.declared.heard_req.HeardReq.{HeardReq}
+use Rattle.vhost_message.specs.declared.heard_req.HeardReq.TheVariants.{SET_OWNER}
 use Rattle.vhost_protocol.specs.AnswerTable.{Answered, answered}
 use Rattle.vhost_protocol.specs.Ask.{Sends, ask}
 use Rattle.vhost_protocol.specs.Error.{Error, seen}
@@ -19,7 +19,7 @@ use Rattle.vhost_protocol.specs.declared.asked.Awaited.{Awaited}
 use Rattle.vhost_protocol.specs.declared.asked.Awaited.TheVariants.{Nobody}
 use Rattle.vhost_protocol.specs.declared.profile.Profile.{Profile}
 use Rattle.vhost_link.specs.declared.plain.PlainHandle.{PlainHandle}
-use Rattle.vhost_endpoint.specs.Memory.{TalksLaw}
+use Rattle.vhost_connection.specs.Memory.{TalksLaw}
 use Rattle.vhost_frontend_core.specs.Frontend.{endpoint_of}
 use Rattle.vhost_frontend_core.specs.Taking.{read, unread}
 use Rattle.vhost_frontend_core.specs.ValueHalves.{TakesResult}
@@ -48,13 +48,13 @@ owner queues profile = record (new_frontend queues) { profile = profile }
 abbrev call : FrontendCall PlainHandle
 call = SetOwner
 
-abbrev message : Written FrontendReq PlainHandle
+abbrev message : Written HeardReq PlainHandle
 message = record { request = SET_OWNER; reply = false; need_reply = false; payload = Empty; handles = [] }
 
 own-cells : written_cells request_number message ≡ own
 own-cells = refl
 
-asked-is : (queues : ℕ) (profile : Profile) (w : Written FrontendReq PlainHandle) (awaited : Awaited) (f' : Frontend) → ask (owner queues profile) call ≡ Sends w awaited f' → (message ≡ w) × (Nobody ≡ awaited) × (owner queues profile ≡ f')
+asked-is : (queues : ℕ) (profile : Profile) (w : Written HeardReq PlainHandle) (awaited : Awaited) (f' : Frontend) → ask (owner queues profile) call ≡ Sends w awaited f' → (message ≡ w) × (Nobody ≡ awaited) × (owner queues profile ≡ f')
 asked-is queues profile w awaited f' is =
     let same : Sends message Nobody (owner queues profile) ≡ Sends w awaited f' = is in (cc same, cc same, cc same)
 

@@ -4,8 +4,8 @@ use Rattle.vhost_message.specs.declared.error.Error as declared
 use Rattle.vhost_message.specs.declared.error.Error.TheVariants.{OutOfMemory, SocketRetry, SocketBroken, InvalidMessage, InvalidParam}
 use Rattle.vhost_message.specs.declared.cause.IoCause.TheVariants.{Raw}
 use Rattle.vhost_message.specs.declared.errno.TheConstants.{ENOMEM}
-use Rattle.vhost_message.specs.declared.frontend_req.FrontendReq.{FrontendReq}
-use Rattle.vhost_message.specs.FrontendReq.{request_number}
+use Rattle.vhost_message.specs.declared.heard_req.HeardReq.{HeardReq}
+use Rattle.vhost_message.specs.HeardReq.{request_number}
 use Rattle.vhost_message.specs.Header.{header_of}
 use Rattle.vhost_message.specs.MsgHeader.{fields_of}
 use Rattle.vhost_protocol.specs.Ask.{ask, Sends, Refuses}
@@ -19,8 +19,8 @@ use Rattle.vhost_protocol.specs.Stream.{Cell, first_handles, has_some}
 use Rattle.vhost_protocol.specs.Written.{Written, written_cells, head_of}
 use Rattle.vhost_link.specs.Ends.{Ends}
 use Rattle.vhost_link.specs.declared.plain.PlainHandle.{PlainHandle}
-use Rattle.vhost_endpoint.specs.Memory.{stream}
-use Rattle.vhost_endpoint.specs.Talk.{State}
+use Rattle.vhost_connection.specs.Memory.{stream}
+use Rattle.vhost_connection.specs.Talk.{State}
 use Rattle.vhost_frontend_core.specs.Awaiting.{MayAwait}
 use Rattle.vhost_frontend_core.specs.Frontend.{endpoint_of, session_of, awaits}
 use Rattle.vhost_frontend_core.specs.Kept.{IsKeptFor}
@@ -90,7 +90,7 @@ inactive_at None = 0
 inactive_at (Some s) = s.inactive
 
 -- A call that was sent is kept until its answer is taken, with the header of its request and with what is awaited. What it is made of has the sizes of its types. Of its answer nothing came yet, and nothing that came before waits.
-pub record Keeps (call : FrontendCall PlainHandle) (w : Written FrontendReq PlainHandle) (s : Session) : Type 0 where
+pub record Keeps (call : FrontendCall PlainHandle) (w : Written HeardReq PlainHandle) (s : Session) : Type 0 where
   pub kept : CallAsked
   pub is : s.asked ≡ Some kept
   pub same : call_of kept.call ≡ call
@@ -102,7 +102,7 @@ pub record Keeps (call : FrontendCall PlainHandle) (w : Written FrontendReq Plai
 
 -- A call was asked: its request is behind what was to be sent before, what is remembered and awaited is the definitions', and it is the call that is kept; or nothing is sent for it, and it was done.
 pub data Asks (call : FrontendCall PlainHandle) (old new : Session) : Type 0 where
-  sent : (w : Written FrontendReq PlainHandle) → ask (remembers old) call ≡ Sends w (awaits new.frontend) (remembers new)
+  sent : (w : Written HeardReq PlainHandle) → ask (remembers old) call ≡ Sends w (awaits new.frontend) (remembers new)
       → queued new ≡ queued old ++ written_cells request_number w → Keeps call w new → new.answer ≡ old.answer → StaysSound (endpoint_of old.frontend) (endpoint_of new.frontend) → Asks call old new
   at_once : (flags : ℕ) → call ≡ SetHdrFlags flags → remembers new ≡ record (remembers old) { header_flags = flags } → queued new ≡ queued old → new.asked ≡ old.asked → new.incoming ≡ old.incoming → new.answer ≡ old.answer
       → bare (endpoint_of new.frontend) ≡ bare (endpoint_of old.frontend) → Asks call old new
@@ -117,7 +117,7 @@ pub data Fails (call : FrontendCall PlainHandle) (s : Session) : declared.Error 
   -- for the answer of a call that makes room for it
   no_answer : makes_room (remembers s) call ≡ true → Fails call s OutOfMemory
   -- for the request
-  no_request : {w : Written FrontendReq PlainHandle} {awaited : Awaited} {f : Frontend} → ask (remembers s) call ≡ Sends w awaited f → Fails call s (SocketRetry (Raw ENOMEM))
+  no_request : {w : Written HeardReq PlainHandle} {awaited : Awaited} {f : Frontend} → ask (remembers s) call ≡ Sends w awaited f → Fails call s (SocketRetry (Raw ENOMEM))
   -- for a part of an earlier message, which broke the session
   was_broken : (endpoint_of s.frontend).broken ≡ Some (Raw ENOMEM) → Fails call s (SocketBroken (Raw ENOMEM))
 

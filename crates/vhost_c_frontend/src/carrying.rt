@@ -3,7 +3,7 @@
 ghost use Rattle.std.specs.Prelude.{◌≡◌, ◌<◌, ◌≤◌, ◌++◌, [], length, OnOk, OnErr, IfErr, IsOk};
 ghost use Rattle.vhost_message.specs.declared.error.Error.TheVariants.{OutOfMemory};
 ghost use Rattle.vhost_message.specs.declared.limits.TheConstants.{MAX_ATTACHED_FD_ENTRIES};
-ghost use Rattle.vhost_endpoint.specs.Memory.{stream};
+ghost use Rattle.vhost_connection.specs.Memory.{stream};
 ghost use Rattle.vhost_frontend_core.specs.Frontend.{endpoint_of, session_of, awaits, IsAwaited};
 ghost use Rattle.vhost_frontend_core.specs.Values.{call_of};
 ghost use Rattle.vhost_c_frontend.specs.Session.{TakesAt};

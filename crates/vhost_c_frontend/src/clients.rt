@@ -10,7 +10,7 @@ ghost use Rattle.vhost_c_frontend.specs.Clients.{own, owns, IsOwning, Owns};
 use crate::session::Session;
 use std::alloc::Global;
 use vhost_c_common::Refusal;
-use vhost_endpoint::talks_law;
+use vhost_connection::talks_law;
 use vhost_frontend_core::{FrontendCall, Profile};
 
 type Outcome<T> = std::result::Result<T, Refusal>;

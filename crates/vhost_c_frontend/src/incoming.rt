@@ -10,8 +10,7 @@ ghost use Rattle.vhost_c_frontend.specs.Incoming.{behind as list_behind, is_size
 use vhost_c_common::Incoming;
 use vhost_frontend_core::{Awaited, FrontendCall};
 use vhost_message::{
-    FrontendReq, MAX_MEM_REGIONS, MAX_MSG_SIZE, MEMORY_HEAD_SIZE, MEMORY_REGION_SIZE,
-    MSG_HEADER_SIZE,
+    HeardReq, MAX_MEM_REGIONS, MAX_MSG_SIZE, MEMORY_HEAD_SIZE, MEMORY_REGION_SIZE, MSG_HEADER_SIZE,
 };
 use vhost_protocol::{Profile, Shape};
 
@@ -39,7 +38,7 @@ pub(crate) fn missing_from(
             if !is_sized(incoming, profile, call, awaited) {
                 return 0;
             }
-            incoming.missing_by::<FrontendReq>(false)
+            incoming.missing_by::<HeardReq>(false)
         }
     }
 }

@@ -16,7 +16,7 @@ use crate::carrying::{collect, forget, forget_arrived, hand_out, receive, take_n
 use crate::incoming::{is_sized, missing_from};
 use std::alloc::Global;
 use vhost_c_common::{Held, Incoming, Outgoing, Refusal, inactive_of};
-use vhost_endpoint::talks_law;
+use vhost_connection::talks_law;
 use vhost_frontend_core::{
     Awaited, FrontendAnswer, FrontendCall, FrontendInternal, Profile, Sent, ask, take,
 };
@@ -178,6 +178,7 @@ impl Session {
         ensures out { IfOk result (λ n. HandsOut (queued self.old) (queued self.new) bytes.new fds.new n) }
         ensures reason { IfErr result (λ r. HandsNone bytes.new fds.new r) }
         ensures refused { IfErr result (λ _. queued self.new ≡ queued self.old) }
+        ensures untouched { IfErr result (λ _. (bytes.new ≡ bytes.old) × (fds.new ≡ fds.old)) }
         ensures rest { Hands (view self.old) (view self.new) }
         ensures held { self.new.held ≡ self.old.held }
     {

@@ -14,15 +14,15 @@ use Rattle.vhost_protocol.specs.Session.{Session}
 use Rattle.vhost_protocol.specs.Settled.{settled}
 use Rattle.vhost_protocol.specs.Step.{Outcome, Step, Calls, OpensBackend, OpensGpu, ◌>>=◌}
 use Rattle.vhost_link.specs.declared.plain.PlainHandle.{PlainHandle}
-use Rattle.vhost_serving_core.specs.Beginning.{step_of, with_one, with_wanted}
-use Rattle.vhost_serving_core.specs.Concluding.{Beside, FollowsFrom, answer_in, done_in}
-use Rattle.vhost_serving_core.specs.Fits.{Makes}
-use Rattle.vhost_serving_core.specs.declared.answer.DeviceAnswer.{DeviceAnswer}
-use Rattle.vhost_serving_core.specs.declared.call.DeviceCall.{DeviceCall}
-use Rattle.vhost_serving_core.specs.declared.call.DeviceCall.TheVariants as call
-use Rattle.vhost_serving.specs.Calling.{beside}
-use Rattle.vhost_serving.specs.Core.{endpoint_of}
-use Rattle.vhost_serving.specs.Serving.{reply_cells}
+use Rattle.vhost_backend_req_handler_core.specs.Beginning.{step_of, with_one, with_wanted}
+use Rattle.vhost_backend_req_handler_core.specs.Concluding.{Beside, FollowsFrom, answer_in, done_in}
+use Rattle.vhost_backend_req_handler_core.specs.Fits.{Makes}
+use Rattle.vhost_backend_req_handler_core.specs.declared.answer.DeviceAnswer.{DeviceAnswer}
+use Rattle.vhost_backend_req_handler_core.specs.declared.call.DeviceCall.{DeviceCall}
+use Rattle.vhost_backend_req_handler_core.specs.declared.call.DeviceCall.TheVariants as call
+use Rattle.vhost_backend_req_handler.specs.Calling.{beside}
+use Rattle.vhost_backend_req_handler.specs.Core.{endpoint_of}
+use Rattle.vhost_backend_req_handler.specs.Serving.{reply_cells}
 use Rattle.vhost_c_common.specs.declared.refusal.Refusal.{Refusal}
 use Rattle.vhost_c_common.specs.declared.refusal.Refusal.TheVariants.{Protocol, OtherCall}
 use Rattle.vhost_c_backend.specs.Replies.{form_in, fits, Gives, Rejects, IsBad}

@@ -3,8 +3,8 @@ use Rattle.std.proofs.Common.{◌≡◌, ◌⊎◌, inl, inr, ℕ, ◌<◌, ◌�
 use Rattle.std.specs.Prelude.{⊤, All, map, ◌==◌, ◌&&◌, is_ok, is_some, if◌then◌else◌}
 use Rattle.std.proofs.lemmas.Bool.{eqb-true, eq-eqb}
 use Rattle.std.proofs.lemmas.List.Elements.{All-head}
-use Rattle.vhost_message.specs.declared.frontend_req.FrontendReq.{FrontendReq}
-use Rattle.vhost_message.specs.declared.frontend_req.FrontendReq.TheVariants.{POSTCOPY_LISTEN, SET_DEVICE_STATE_FD}
+use Rattle.vhost_message.specs.declared.heard_req.HeardReq.{HeardReq}
+use Rattle.vhost_message.specs.declared.heard_req.HeardReq.TheVariants.{POSTCOPY_LISTEN, SET_DEVICE_STATE_FD}
 use Rattle.vhost_message.specs.declared.records.config.VhostUserConfig.{VhostUserConfig}
 use Rattle.vhost_message.specs.declared.records.shmem.VhostUserShMemConfig.{VhostUserShMemConfig}
 use Rattle.vhost_message.specs.declared.records.vring.VhostUserVringState.{VhostUserVringState}
@@ -21,7 +21,7 @@ use Rattle.vhost_protocol.specs.Settled.{ended, has_reply, is_listening, refused
 use Rattle.vhost_protocol.specs.Step.{Refusal, Step, Refused, Calls, OpensBackend, OpensGpu, ◌>>=◌, ◌>>◌, replied, replied_or_silent, unwritten, with_ack}
 use Rattle.vhost_protocol.specs.Written.{Payload, Empty, U64, RingState, ConfigBytes}
 use Rattle.vhost_link.specs.declared.plain.PlainHandle.{PlainHandle}
-use Rattle.vhost_serving_core.specs.Concluding.{Beside, answer_in, bytes_in, done_in, handle_in, number_in, ring_state_in, shmem_in, state_handle_in}
+use Rattle.vhost_backend_req_handler_core.specs.Concluding.{Beside, answer_in, bytes_in, done_in, handle_in, number_in, ring_state_in, shmem_in, state_handle_in}
 use Rattle.vhost_c_common.specs.Records.{fd_in}
 use Rattle.vhost_c_backend.specs.Calls.{device_number}
 use Rattle.vhost_c_backend.specs.Serving.{Channel, Display}
@@ -42,10 +42,10 @@ abbrev pub Row : Type 0
 Row = Step PlainHandle Channel Display
 
 -- a request that is no reply, with its descriptors
-abbrev pub bringing : FrontendReq → Bool → List ℕ → List PlainHandle → Message FrontendReq PlainHandle
+abbrev pub bringing : HeardReq → Bool → List ℕ → List PlainHandle → Message HeardReq PlainHandle
 bringing r need body hs = record { request = r; reply = false; need_reply = need; body = body; handles = hs }
 
-module _ (s : Session) (standard : is_standard s.profile ≡ true) (r : FrontendReq) (need : Bool) (body : List ℕ) where
+module _ (s : Session) (standard : is_standard s.profile ≡ true) (r : HeardReq) (need : Bool) (body : List ℕ) where
   -- what an outcome becomes
   abbrev pub became : Out → Out
   became o = settled s (asking r need body) o

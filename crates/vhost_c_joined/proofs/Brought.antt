@@ -3,8 +3,8 @@ use Rattle.std.proofs.Common.{◌≡◌, ◌<◌, ◌≤◌, inl, inr, ℕ, ℤ,
 use Rattle.std.specs.Prelude.{⊤, pos, negsuc, int_lt, is_ok, IfOk, IfSome, ◌==◌, ◌^◌, not, if◌then◌else◌}
 use Rattle.std.proofs.lemmas.Bool.{ltb-true, le-ltb}
 use Rattle.std.proofs.lemmas.List.Elements.{All-nil, All-cons}
-use Rattle.vhost_message.specs.declared.frontend_req.FrontendReq.{FrontendReq}
-use Rattle.vhost_message.specs.declared.frontend_req.FrontendReq.TheVariants.{GET_CONFIG, GET_INFLIGHT_FD, GET_SHARED_OBJECT, POSTCOPY_ADVISE, SET_DEVICE_STATE_FD, CHECK_DEVICE_STATE, POSTCOPY_END, SET_MEM_TABLE}
+use Rattle.vhost_message.specs.declared.heard_req.HeardReq.{HeardReq}
+use Rattle.vhost_message.specs.declared.heard_req.HeardReq.TheVariants.{GET_CONFIG, GET_INFLIGHT_FD, GET_SHARED_OBJECT, POSTCOPY_ADVISE, SET_DEVICE_STATE_FD, CHECK_DEVICE_STATE, POSTCOPY_END, SET_MEM_TABLE}
 use Rattle.vhost_message.specs.declared.records.config.VhostUserConfig.{VhostUserConfig}
 use Rattle.vhost_message.specs.declared.records.inflight.VhostUserInflight.{VhostUserInflight}
 use Rattle.vhost_message.specs.declared.records.memory.VhostUserMemoryRegion.{VhostUserMemoryRegion}
@@ -28,9 +28,9 @@ use Rattle.vhost_protocol.specs.Written.{Payload, ConfigBytes, Regions}
 use Rattle.vhost_protocol.proofs.SettleLaws.{pick}
 use Rattle.vhost_link.specs.declared.handle.Kind.TheVariants.{NoSocket}
 use Rattle.vhost_link.specs.declared.plain.PlainHandle.{PlainHandle}
-use Rattle.vhost_serving_core.specs.Concluding.{Beside, answer_in}
-use Rattle.vhost_serving_core.specs.Concluding as answer_of
-use Rattle.vhost_serving_core.specs.declared.answer.DeviceAnswer.{DeviceAnswer}
+use Rattle.vhost_backend_req_handler_core.specs.Concluding.{Beside, answer_in}
+use Rattle.vhost_backend_req_handler_core.specs.Concluding as answer_of
+use Rattle.vhost_backend_req_handler_core.specs.declared.answer.DeviceAnswer.{DeviceAnswer}
 use Rattle.vhost_c_common.specs.Records.{handle_in, fd_in}
 use Rattle.vhost_c_backend.specs.Replies.{Gives}
 use Rattle.vhost_c_backend.specs.Serving.{Channel, Display}
@@ -109,7 +109,7 @@ module _ (B G : Type 0) where
   row-then true e next h = h
   row-then false e next h = no-fds
 
-  row-then_aloud : (s : Session) (m : Message FrontendReq PlainHandle) (b : Bool) (e : Error) (next : Row) → AllBring next → AllBring (step.◌>>◌ (test b (acknowledged s m e)) next)
+  row-then_aloud : (s : Session) (m : Message HeardReq PlainHandle) (b : Bool) (e : Error) (next : Row) → AllBring next → AllBring (step.◌>>◌ (test b (acknowledged s m e)) next)
   row-then_aloud s m true e next h = h
   row-then_aloud s m false e next h = row-ack (ack_on s && m.need_reply) false
 
@@ -122,12 +122,12 @@ module _ (B G : Type 0) where
   row-one (x ∷ []) e next h = h x
   row-one (x ∷ y ∷ hs) e next h = no-fds
 
-  row-one_aloud : (s : Session) (m : Message FrontendReq PlainHandle) (hs : List PlainHandle) (e : Error) (next : PlainHandle → Row) → ((h : PlainHandle) → AllBring (next h)) → AllBring (step.◌>>=◌ (only (acknowledged s m e) hs) next)
+  row-one_aloud : (s : Session) (m : Message HeardReq PlainHandle) (hs : List PlainHandle) (e : Error) (next : PlainHandle → Row) → ((h : PlainHandle) → AllBring (next h)) → AllBring (step.◌>>=◌ (only (acknowledged s m e) hs) next)
   row-one_aloud s m [] e next h = row-ack (ack_on s && m.need_reply) false
   row-one_aloud s m (x ∷ []) e next h = h x
   row-one_aloud s m (x ∷ y ∷ hs) e next h = row-ack (ack_on s && m.need_reply) false
 
-  row-channel : (C : Type 0) (s : Session) (m : Message FrontendReq PlainHandle) (opened : Result C Error) (next : C → Row) → ((c : C) → AllBring (next c)) → AllBring (step.◌>>=◌ (channel s m opened) next)
+  row-channel : (C : Type 0) (s : Session) (m : Message HeardReq PlainHandle) (opened : Result C Error) (next : C → Row) → ((c : C) → AllBring (next c)) → AllBring (step.◌>>=◌ (channel s m opened) next)
   row-channel C s m (Ok c) next h = h c
   row-channel C s m (Err e) next h = row-ack (ack_on s && m.need_reply) false
 
@@ -168,12 +168,12 @@ module _ (B G : Type 0) where
       go false = no-fds
   row-config s c (Err e) = no-fds
 
-  row-base : (s : Session) (m : Message FrontendReq PlainHandle) (r : VhostUserSingleMemoryRegion) (a : Result (Option ℕ) Error) → Brings (with_base s m r a).served
+  row-base : (s : Session) (m : Message HeardReq PlainHandle) (r : VhostUserSingleMemoryRegion) (a : Result (Option ℕ) Error) → Brings (with_base s m r a).served
   row-base s m r (Ok (Some base)) = no-fds
   row-base s m r (Ok None) = row-ack (ack_on s && m.need_reply) false
   row-base s m r (Err e) = row-ack (ack_on s && m.need_reply) false
 
-  row-bases : (s : Session) (m : Message FrontendReq PlainHandle) (regions : List VhostUserMemoryRegion) (a : Result (Option (List ℕ)) Error) → Brings (with_bases s m regions a).served
+  row-bases : (s : Session) (m : Message HeardReq PlainHandle) (regions : List VhostUserMemoryRegion) (a : Result (Option (List ℕ)) Error) → Brings (with_bases s m regions a).served
   row-bases s m regions (Ok (Some bases)) = go (length bases == length regions)
     where
       go : (b : Bool) → Brings (cond b (replied s (Regions (rebased regions bases)) []) (failed_with s m BackendInternalError)).served
@@ -184,15 +184,15 @@ module _ (B G : Type 0) where
 
   ruleset bringing = (row-then, row-then_aloud, row-if, row-one, row-one_aloud, row-channel, row-cond, row-ack, row-number, row-features, row-handle, row-inflight, row-state, row-check, row-config, row-base, row-bases, no-fds)
 
-  rows-bring : (r : FrontendReq) (s : Session) (m : Message FrontendReq PlainHandle) → AllBring {B = B} {G = G} (row_of r s m)
+  rows-bring : (r : HeardReq) (s : Session) (m : Message HeardReq PlainHandle) → AllBring {B = B} {G = G} (row_of r s m)
   rows-bring SET_MEM_TABLE s m = search bringing depth 12
   rows-bring _ s m = search bringing depth 12
 
 -- what a silence becomes brings none
-settled-brings : (s : Session) (m : Message FrontendReq PlainHandle) (o : Outcome PlainHandle) → Brings o.served → Brings (settled s m o).served
+settled-brings : (s : Session) (m : Message HeardReq PlainHandle) (o : Outcome PlainHandle) → Brings o.served → Brings (settled s m o).served
 settled-brings s m o fds = go (is_standard s.profile && is_unanswered (awaits_reply s m) o.served)
   where
-    refused : (r : FrontendReq) (body : List ℕ) → Brings (refused_reply r body (silenced o)).served
+    refused : (r : HeardReq) (body : List ℕ) → Brings (refused_reply r body (silenced o)).served
     refused GET_CONFIG body = no-fds
     refused GET_INFLIGHT_FD body = no-fds
     refused GET_SHARED_OBJECT body = no-fds
@@ -275,7 +275,7 @@ module _ (r : Reply) (sized : IsSized r) where
   followed-brings s (OpensGpu h next) o all f = followed-brings s (next f.0) o (all f.0) f.2
 
   -- a reply brings descriptors alone
-  pub met-brings : (s : Session) (m : Message FrontendReq PlainHandle) (o : Outcome PlainHandle) → Meets (replies r) (opens r) (opens r) s tt m o tt → All IsFd (handles_in o.served)
+  pub met-brings : (s : Session) (m : Message HeardReq PlainHandle) (o : Outcome PlainHandle) → Meets (replies r) (opens r) (opens r) s tt m o tt → All IsFd (handles_in o.served)
   met-brings s m o met = subst {A = Outcome PlainHandle} (λ y. Brings y.served) (sym met.2) (settled-brings s m met.0 (followed-brings s (row s m) met.0 (rows-bring Channel Display m.request s m) met.1))
 
 -- so does a request

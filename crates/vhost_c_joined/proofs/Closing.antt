@@ -6,8 +6,8 @@ use Rattle.vhost_message.specs.Header.{header_of}
 use Rattle.vhost_message.specs.MsgHeader.{fields_of}
 use Rattle.vhost_message.specs.declared.error.Error as declared
 use Rattle.vhost_message.specs.declared.error.Error.TheVariants as code
-use Rattle.vhost_message.specs.declared.frontend_req.FrontendReq.{FrontendReq}
-use Rattle.vhost_message.specs.FrontendReq.{request_number, is_named}
+use Rattle.vhost_message.specs.declared.heard_req.HeardReq.{HeardReq}
+use Rattle.vhost_message.specs.HeardReq.{request_number, is_named}
 use Rattle.vhost_protocol.specs.Agreement.{Negotiates, AskedNegotiates}
 use Rattle.vhost_protocol.specs.Answering.{IsServed}
 use Rattle.vhost_protocol.specs.AnswerTable.{Answered}
@@ -31,11 +31,11 @@ use Rattle.vhost_protocol.proofs.FollowLaws.{met-known, met-good, met-well}
 use Rattle.vhost_protocol.proofs.HeardLaws.{awaits-shape, hears-answer}
 use Rattle.vhost_protocol.proofs.NegotiationLaws.{calls-negotiate, replies-negotiate}
 use Rattle.vhost_link.specs.declared.plain.PlainHandle.{PlainHandle}
-use Rattle.vhost_endpoint.specs.Memory.{TalksLaw}
-use Rattle.vhost_serving_core.specs.Session.{session_of}
-use Rattle.vhost_serving.specs.Serving.{reply_cells}
-use Rattle.vhost_serving.specs.declared.halves.Pending.{Pending}
-use Rattle.vhost_serving.specs.declared.service.Service.{Service}
+use Rattle.vhost_connection.specs.Memory.{TalksLaw}
+use Rattle.vhost_backend_req_handler_core.specs.Session.{session_of}
+use Rattle.vhost_backend_req_handler.specs.Serving.{reply_cells}
+use Rattle.vhost_backend_req_handler.specs.declared.halves.Pending.{Pending}
+use Rattle.vhost_backend_req_handler.specs.declared.service.Service.{Service}
 use Rattle.vhost_frontend_core.specs.Frontend.{awaits, endpoint_of}
 use Rattle.vhost_frontend_core.specs.Values.{answer_of, call_of}
 use Rattle.vhost_frontend_core.specs.ValueHalves.{IsSent, TakesResult}
@@ -67,7 +67,7 @@ use Rattle.vhost_c_joined.proofs.Joining as joining
 use Rattle.vhost_c_joined.proofs.Joining.{Sent}
 use Rattle.vhost_c_joined.proofs.Offering.{offers-so}
 use Rattle.vhost_c_joined.proofs.Replying.{IsHeardBy, as-cells, handles_in, heard-by, text_in}
-use Rattle.vhost_pair.proofs.Settings.{Has, answered-with, kept-sent}
+use Rattle.vhost_joined.proofs.Settings.{Has, answered-with, kept-sent}
 use Rattle.vhost_c_joined.proofs.Waited.{never-silent}
 use Rattle.vhost_c_joined.proofs.Taken.{Took, Wanted, no-error, same-want, took}
 
@@ -75,7 +75,7 @@ abbrev Call : Type 0
 Call = FrontendCall PlainHandle
 
 abbrev Message : Type 0
-Message = Written FrontendReq PlainHandle
+Message = Written HeardReq PlainHandle
 
 -- what the sessions keep while a message goes over
 abbrev Front : Type 0
@@ -94,7 +94,7 @@ answer-kept (SetHdrFlags flags) f goes = absurd goes
 answer-kept _ f goes = refl
 
 -- nothing was written
-silent-text : (q : FrontendReq) (x : Wrote PlainHandle) → text_in q x ≡ [] → x ≡ Silent
+silent-text : (q : HeardReq) (x : Wrote PlainHandle) → text_in q x ≡ [] → x ≡ Silent
 silent-text q Silent is = refl
 silent-text q (Acknowledged agreed) is = absurd (cc is)
 silent-text q (Replied payload handles) is = absurd (cc is)

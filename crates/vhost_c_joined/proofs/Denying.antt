@@ -2,7 +2,7 @@
 use Rattle.std.proofs.Common.{◌≡◌, ◌⊎◌, ◌<◌, inl, inr, ℕ, Bool, true, false, List, [], ◌++◌, append_assoc, None, Result, Ok, Err, refl, sym, ap, subst, ◌∙◌, arith}
 use Rattle.std.specs.Prelude.{⊤}
 use Rattle.vhost_message.specs.declared.error.Error as declared
-use Rattle.vhost_message.specs.declared.frontend_req.FrontendReq.{FrontendReq}
+use Rattle.vhost_message.specs.declared.heard_req.HeardReq.{HeardReq}
 use Rattle.vhost_protocol.specs.Codes.{allows_handles}
 use Rattle.vhost_protocol.specs.Error.{Error, seen}
 use Rattle.vhost_protocol.specs.Handler.{Follows, MeetsRow}
@@ -13,12 +13,12 @@ use Rattle.vhost_protocol.specs.Step.{Outcome, Step, Refused, Calls, OpensBacken
 use Rattle.vhost_protocol.specs.Stream.{Cell}
 use Rattle.vhost_link.specs.Mem.{event}
 use Rattle.vhost_link.specs.declared.plain.PlainHandle.{PlainHandle}
-use Rattle.vhost_endpoint.specs.Memory.{stream, TalksLaw}
-use Rattle.vhost_endpoint.specs.Serving.{Handled, Breaks, unread, unanswered}
-use Rattle.vhost_endpoint.specs.Talk.{Trouble, First, was_broken, no_memory, fault}
-use Rattle.vhost_serving.specs.Core.{endpoint_of, session_in}
-use Rattle.vhost_serving.specs.Halves.{uncalled, unopened}
-use Rattle.vhost_serving.specs.Serving.{fitting, kept_unsent}
+use Rattle.vhost_connection.specs.Memory.{stream, TalksLaw}
+use Rattle.vhost_connection.specs.Serving.{Handled, Breaks, unread, unanswered}
+use Rattle.vhost_connection.specs.Talk.{Trouble, First, was_broken, no_memory, fault}
+use Rattle.vhost_backend_req_handler.specs.Core.{endpoint_of, session_in}
+use Rattle.vhost_backend_req_handler.specs.Halves.{uncalled, unopened}
+use Rattle.vhost_backend_req_handler.specs.Serving.{fitting, kept_unsent}
 use Rattle.vhost_c_common.proofs.Hearing.{hears-cut, replies-told}
 use Rattle.vhost_c_common.proofs.Wants.{sound}
 use Rattle.vhost_c_common.specs.View.{End}
@@ -51,7 +51,7 @@ opened m number old new due next =
 
 -- ---- it was refused
 
-abbrev Met : Session → ⊤ → Message FrontendReq PlainHandle → Result ⊤ Error → List (Cell PlainHandle) → Session → ⊤ → Type 0
+abbrev Met : Session → ⊤ → Message HeardReq PlainHandle → Result ⊤ Error → List (Cell PlainHandle) → Session → ⊤ → Type 0
 Met = MeetsRow (fitting (uncalled Channel Display)) (unopened Channel Display) (unopened Channel Display)
 
 -- a device that is never called may answer by any reply

@@ -6,11 +6,11 @@ use Rattle.vhost_message.specs.declared.records.shmem.VhostUserShMemConfig.{Vhos
 use Rattle.vhost_protocol.specs.DeviceCall.{Call, Answer}
 use Rattle.vhost_protocol.specs.Heard.{AnswerFits}
 use Rattle.vhost_link.specs.declared.plain.PlainHandle.{PlainHandle}
-use Rattle.vhost_serving_core.specs.Concluding.{bases_in, bytes_in}
-use Rattle.vhost_serving_core.specs.declared.answer.DeviceAnswer.{DeviceAnswer}
-use Rattle.vhost_serving_core.specs.declared.answer.DeviceAnswer.TheVariants as answer
-use Rattle.vhost_serving.specs.Sized.{AnswerSized}
-use Rattle.vhost_serving.proofs.Fitting.{answer_fits}
+use Rattle.vhost_backend_req_handler_core.specs.Concluding.{bases_in, bytes_in}
+use Rattle.vhost_backend_req_handler_core.specs.declared.answer.DeviceAnswer.{DeviceAnswer}
+use Rattle.vhost_backend_req_handler_core.specs.declared.answer.DeviceAnswer.TheVariants as answer
+use Rattle.vhost_backend_req_handler.specs.Sized.{AnswerSized}
+use Rattle.vhost_backend_req_handler.proofs.Fitting.{answer_fits}
 use Rattle.vhost_c_backend.specs.Replies.{Gives, only}
 use Rattle.vhost_c_backend.specs.Serving.{Channel, Display}
 use Rattle.vhost_c_backend.specs.declared.replies.Form.{Form}

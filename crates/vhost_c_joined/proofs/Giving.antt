@@ -5,9 +5,9 @@ use Rattle.std.proofs.lemmas.List.{append-nil, length-map, length-take-le, lengt
 use Rattle.std.proofs.lemmas.List.Elements.{All-contains}
 use Rattle.vhost_message.specs.Header.{header_of}
 use Rattle.vhost_message.specs.declared.error.Error.TheVariants.{OutOfMemory, InvalidParam}
-use Rattle.vhost_message.specs.declared.frontend_req.FrontendReq.{FrontendReq}
+use Rattle.vhost_message.specs.declared.heard_req.HeardReq.{HeardReq}
 use Rattle.vhost_message.specs.declared.limits.TheConstants.{MAX_ATTACHED_FD_ENTRIES, MAX_MSG_SIZE, MAX_MSG_TEXT}
-use Rattle.vhost_message.specs.FrontendReq.{request_number}
+use Rattle.vhost_message.specs.HeardReq.{request_number}
 use Rattle.vhost_protocol.specs.Codes.{allows_handles}
 use Rattle.vhost_protocol.specs.Joined.{read_as}
 use Rattle.vhost_protocol.specs.Session.{Session as Memory, heard_in}
@@ -19,9 +19,9 @@ use Rattle.vhost_protocol.proofs.TextLaws as text
 use Rattle.vhost_protocol.proofs.TextLaws.{request-small, written-split}
 use Rattle.vhost_link.proofs.Cells.{carrying-append, plain-is}
 use Rattle.vhost_link.specs.declared.plain.PlainHandle.{PlainHandle}
-use Rattle.vhost_serving_core.specs.Session.{session_of}
-use Rattle.vhost_serving.specs.declared.halves.Pending.{Pending}
-use Rattle.vhost_serving.specs.declared.service.Service.{Service}
+use Rattle.vhost_backend_req_handler_core.specs.Session.{session_of}
+use Rattle.vhost_backend_req_handler.specs.declared.halves.Pending.{Pending}
+use Rattle.vhost_backend_req_handler.specs.declared.service.Service.{Service}
 use Rattle.vhost_c_common.specs.Incoming.{missing_by}
 use Rattle.vhost_c_common.specs.Moving.{TakesIn}
 use Rattle.vhost_c_common.specs.Records.{handle_in}
@@ -57,14 +57,14 @@ bare-piece : (hs : List PlainHandle) (bs : List ℕ) → map handle_in [] ≡ ma
 bare-piece [] bs none = plain-is bs
 bare-piece (h ∷ hs) bs none = absurd (cc none)
 
-module _ (w : Written FrontendReq PlainHandle) (request : List ℕ) (fds : List ℤ) (old : Served) (req : IsRequest w request fds old) where
+module _ (w : Written HeardReq PlainHandle) (request : List ℕ) (fds : List ℤ) (old : Served) (req : IsRequest w request fds old) where
   small : length (payload_text w.payload) ≤ MAX_MSG_SIZE
   small = req.sendable.size
 
   known : request_number w.request < 2 ^ 32
   known = request-small w.request req.sendable.named
 
-  abbrev heard : ℕ → Option FrontendReq
+  abbrev heard : ℕ → Option HeardReq
   heard = heard_in (served.remembers old)
 
   is-announced : is_some (announced heard (head_of request_number w)) ≡ true

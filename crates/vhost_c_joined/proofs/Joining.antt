@@ -3,9 +3,9 @@ use Rattle.std.proofs.Common.{◌≡◌, ◌<◌, ◌≤◌, ◌^◌, ℕ, Bool,
 use Rattle.std.specs.Prelude.{All, is_some, if◌then◌else◌}
 use Rattle.std.proofs.lemmas.List.{append-nil}
 use Rattle.vhost_message.specs.Header.{header_text}
-use Rattle.vhost_message.specs.declared.frontend_req.FrontendReq.{FrontendReq}
+use Rattle.vhost_message.specs.declared.heard_req.HeardReq.{HeardReq}
 use Rattle.vhost_message.specs.declared.limits.TheConstants.{MAX_MSG_SIZE, MAX_MSG_TEXT}
-use Rattle.vhost_message.specs.FrontendReq.{request_number}
+use Rattle.vhost_message.specs.HeardReq.{request_number}
 use Rattle.vhost_protocol.specs.Ask.{Asked, Sends, ask}
 use Rattle.vhost_protocol.specs.Codes.{allows_handles}
 use Rattle.vhost_protocol.specs.FrontendCall.{FrontendCall}
@@ -20,9 +20,9 @@ use Rattle.vhost_protocol.proofs.SendLaws.{sends-whole}
 use Rattle.vhost_protocol.proofs.TextLaws as text
 use Rattle.vhost_protocol.proofs.TextLaws.{request-small, written-split}
 use Rattle.vhost_link.specs.declared.plain.PlainHandle.{PlainHandle}
-use Rattle.vhost_serving_core.specs.Session.{session_of}
-use Rattle.vhost_serving.specs.declared.halves.Pending.{Pending}
-use Rattle.vhost_serving.specs.declared.service.Service.{Service}
+use Rattle.vhost_backend_req_handler_core.specs.Session.{session_of}
+use Rattle.vhost_backend_req_handler.specs.declared.halves.Pending.{Pending}
+use Rattle.vhost_backend_req_handler.specs.declared.service.Service.{Service}
 use Rattle.vhost_frontend_core.specs.Frontend.{awaits, endpoint_of}
 use Rattle.vhost_frontend_core.specs.ValueHalves.{IsSent}
 use Rattle.vhost_c_common.specs.Incoming.{missing_by}
@@ -43,7 +43,7 @@ abbrev Call : Type 0
 Call = FrontendCall PlainHandle
 
 abbrev Message : Type 0
-Message = Written FrontendReq PlainHandle
+Message = Written HeardReq PlainHandle
 
 -- what a backend's session keeps while a message comes
 abbrev Kept : Type 0
@@ -75,7 +75,7 @@ module _ (bit : Bool) (call : Call) (given : HasFds call) (f0 f1 : Session) (b0 
   known : request_number s.w.request < 2 ^ 32
   known = request-small s.w.request whole.named
 
-  abbrev heard : ℕ → Option FrontendReq
+  abbrev heard : ℕ → Option HeardReq
   heard = heard_in (served.remembers b0)
 
   sendable : text.IsSendable heard allows_handles request_number s.w

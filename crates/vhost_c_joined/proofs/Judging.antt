@@ -4,9 +4,9 @@ use Rattle.std.specs.Prelude.{⊤, All, codes, map, ◌==◌, ◌&&◌, not, is_
 use Rattle.std.proofs.lemmas.Bool.{eqb-true, leb-true}
 use Rattle.std.proofs.lemmas.List.Elements.{All-head}
 use Rattle.std.proofs.lemmas.Nat.{or_lt}
-use Rattle.vhost_message.specs.declared.frontend_req.FrontendReq.{FrontendReq}
-use Rattle.vhost_message.specs.declared.frontend_req.FrontendReq.TheVariants.{GET_FEATURES, SET_FEATURES, SET_OWNER, RESET_OWNER, SET_MEM_TABLE, SET_LOG_BASE, SET_VRING_NUM, SET_VRING_ADDR, SET_VRING_BASE, GET_VRING_BASE, SET_VRING_KICK, SET_VRING_CALL, SET_VRING_ERR, GET_PROTOCOL_FEATURES, SET_PROTOCOL_FEATURES, GET_QUEUE_NUM, SET_VRING_ENABLE, NET_SET_MTU, SET_BACKEND_REQ_FD, GET_CONFIG, SET_CONFIG, CREATE_CRYPTO_SESSION, POSTCOPY_ADVISE, POSTCOPY_LISTEN, POSTCOPY_END, GET_INFLIGHT_FD, SET_INFLIGHT_FD, GPU_SET_SOCKET, RESET_DEVICE, GET_MAX_MEM_SLOTS, ADD_MEM_REG, REM_MEM_REG, GET_STATUS, GET_SHARED_OBJECT, SET_DEVICE_STATE_FD, CHECK_DEVICE_STATE, GET_SHMEM_CONFIG}
-use Rattle.vhost_message.specs.FrontendReq.{request_number}
+use Rattle.vhost_message.specs.declared.heard_req.HeardReq.{HeardReq}
+use Rattle.vhost_message.specs.declared.heard_req.HeardReq.TheVariants.{GET_FEATURES, SET_FEATURES, SET_OWNER, RESET_OWNER, SET_MEM_TABLE, SET_LOG_BASE, SET_VRING_NUM, SET_VRING_ADDR, SET_VRING_BASE, GET_VRING_BASE, SET_VRING_KICK, SET_VRING_CALL, SET_VRING_ERR, GET_PROTOCOL_FEATURES, SET_PROTOCOL_FEATURES, GET_QUEUE_NUM, SET_VRING_ENABLE, NET_SET_MTU, SET_BACKEND_REQ_FD, GET_CONFIG, SET_CONFIG, CREATE_CRYPTO_SESSION, POSTCOPY_ADVISE, POSTCOPY_LISTEN, POSTCOPY_END, GET_INFLIGHT_FD, SET_INFLIGHT_FD, GPU_SET_SOCKET, RESET_DEVICE, GET_MAX_MEM_SLOTS, ADD_MEM_REG, REM_MEM_REG, GET_STATUS, GET_SHARED_OBJECT, SET_DEVICE_STATE_FD, CHECK_DEVICE_STATE, GET_SHMEM_CONFIG}
+use Rattle.vhost_message.specs.HeardReq.{request_number}
 use Rattle.vhost_message.specs.declared.limits.TheConstants.{MAX_MEM_REGIONS, MAX_MSG_SIZE, MEMORY_HEAD_SIZE}
 use Rattle.vhost_message.specs.declared.postcopy.PostcopyState.TheVariants.{Advise, End}
 use Rattle.vhost_message.specs.declared.records.inflight.VhostUserInflight.{VhostUserInflight}
@@ -31,7 +31,7 @@ use Rattle.vhost_protocol.specs.Settled.{ended, has_reply, is_listening, refused
 use Rattle.vhost_protocol.specs.Step.{Refusal, OpensBackend, OpensGpu, ◌>>=◌, ◌>>◌, acknowledged, failed_with, replied, replied_or_silent, silently, with_ack}
 use Rattle.vhost_protocol.specs.Written.{Empty, U64, InflightArea, LogArea, OneRegion, Regions, Shmem}
 use Rattle.vhost_link.specs.declared.plain.PlainHandle.{PlainHandle}
-use Rattle.vhost_serving_core.specs.Concluding.{base_in, bases_in, done_in, inflight_in}
+use Rattle.vhost_backend_req_handler_core.specs.Concluding.{base_in, bases_in, done_in, inflight_in}
 use Rattle.vhost_c_common.specs.Records.{fd_in}
 use Rattle.vhost_c_backend.specs.Serving.{Channel, Display}
 use Rattle.vhost_c_backend.specs.declared.replies.Form.TheVariants as form
@@ -58,23 +58,23 @@ small-config : (offset size len : ℕ) → len ≤ MAX_MSG_SIZE → len ≡ 12 +
 small-config offset size len few is = omega (arith, few, is)
 
 module _ (s : Session) (standard : is_standard s.profile ≡ true) (need : Bool) (body : List ℕ) (hs : List PlainHandle) (small : length body ≤ MAX_MSG_SIZE) where
-  abbrev W : FrontendReq → Row → Type 0
+  abbrev W : HeardReq → Row → Type 0
   W r = Well s standard r need body
 
   -- the regions of a table are mapped
-  then' : (r : FrontendReq) (x : Result ⊤ (Refusal PlainHandle)) (next : Row) → W r next → W r (x >> next)
+  then' : (r : HeardReq) (x : Result ⊤ (Refusal PlainHandle)) (next : Row) → W r next → W r (x >> next)
   then' r x next h = well-then s standard r need body x next h
 
-  bind' : {A : Type 0} (r : FrontendReq) (x : Result A (Refusal PlainHandle)) (next : A → Row) → ((a : A) → W r (next a)) → W r (x >>= next)
+  bind' : {A : Type 0} (r : HeardReq) (x : Result A (Refusal PlainHandle)) (next : A → Row) → ((a : A) → W r (next a)) → W r (x >>= next)
   bind' r x next h = well-bind s standard r need body x next h
 
-  abbrev msg : FrontendReq → Message FrontendReq PlainHandle
+  abbrev msg : HeardReq → Message HeardReq PlainHandle
   msg r = bringing r need body hs
 
-  abbrev on : FrontendReq → Call PlainHandle Channel Display → Row
+  abbrev on : HeardReq → Call PlainHandle Channel Display → Row
   on r c = calls s (msg r) c
 
-  mapped : (r : FrontendReq) → has_reply r s (length body) ≡ false → is_listening r ≡ false → W r (mapped_row s (msg r))
+  mapped : (r : HeardReq) → has_reply r s (length body) ≡ false → is_listening r ≡ false → W r (mapped_row s (msg r))
   mapped r own listening = bind' r (u64 (msg r)) (λ n. test (n == 0) (silently FrontendInternalError) >> on r device.PostcopyAckMemRegions) (λ n. then' r (test (n == 0) (silently FrontendInternalError)) (on r device.PostcopyAckMemRegions)
       (λ d x b sized says alive fds gives d' x' b' holds says'. quiets s standard r need body s own listening x x' d' holds says'))
 
@@ -87,7 +87,7 @@ module _ (s : Session) (standard : is_standard s.profile ≡ true) (need : Bool)
       by false b is = refl
 
   -- a ring is given one, or none
-  rung : (r : FrontendReq) (c : ℕ → Option PlainHandle → Call PlainHandle Channel Display) → ((n : ℕ) (h : Option PlainHandle) → W r (on r (c n h))) → W r (ring_row (msg r) (λ n h. on r (c n h)))
+  rung : (r : HeardReq) (c : ℕ → Option PlainHandle → Call PlainHandle Channel Display) → ((n : ℕ) (h : Option PlainHandle) → W r (on r (c n h))) → W r (ring_row (msg r) (λ n h. on r (c n h)))
   rung r c well = bind' r (u64 (msg r)) (λ n. if has_bit n 8 then test (not (length hs == 1)) (silently InvalidMessage) >> on r (c (n % 256) None) else only (silently InvalidMessage) hs >>= (λ h. on r (c (n % 256) (Some h))))
       (λ n. well-cond s standard r need body (has_bit n 8) (test (not (length hs == 1)) (silently InvalidMessage) >> on r (c (n % 256) None)) (only (silently InvalidMessage) hs >>= (λ h. on r (c (n % 256) (Some h))))
       (λ is. then' r (test (not (length hs == 1)) (silently InvalidMessage)) (on r (c (n % 256) None)) (well (n % 256) None))
@@ -107,7 +107,7 @@ module _ (s : Session) (standard : is_standard s.profile ≡ true) (need : Bool)
   no-reply is = ap (λ a. a && not (length body == 8)) is
 
   -- a refusal ends the session then
-  dies : (r : FrontendReq) → has_reply r s (length body) ≡ true → ((o : Out) → refused_reply r body o ≡ ended o) → (e : Error) → is_some (became s standard r need body (failed_with s (msg r) e)).session.failed ≡ false → ⊥
+  dies : (r : HeardReq) → has_reply r s (length body) ≡ true → ((o : Out) → refused_reply r body o ≡ ended o) → (e : Error) → is_some (became s standard r need body (failed_with s (msg r) e)).session.failed ≡ false → ⊥
   dies r own none e alive = never-acked s standard r need body s {A = ⊤} (Err e) own none alive
 
   abbrev table_in : Bool → Row
@@ -240,7 +240,7 @@ module _ (s : Session) (standard : is_standard s.profile ≡ true) (need : Bool)
   abbrev gpu_in : PlainHandle → Row
   gpu_in h = OpensGpu h (λ opened. channel s (msg GPU_SET_SOCKET) opened >>= (λ c. on GPU_SET_SOCKET (device.SetGpuSocket c)))
 
-  pub rows : (r : FrontendReq) → W r (row_of r s (msg r))
+  pub rows : (r : HeardReq) → W r (row_of r s (msg r))
   rows SET_OWNER = then' SET_OWNER (table.bare 0 (msg SET_OWNER)) (on SET_OWNER device.SetOwner) (λ d x b sized says alive fds gives d' x' b' holds says'. acks s standard SET_OWNER need body s refl refl x x' d' holds says')
   rows RESET_OWNER = then' RESET_OWNER (table.bare 0 (msg RESET_OWNER)) (on RESET_OWNER device.ResetOwner) (λ d x b sized says alive fds gives d' x' b' holds says'. acks s standard RESET_OWNER need body s refl refl x x' d' holds says')
   rows RESET_DEVICE = then' RESET_DEVICE (table.session_feature s RESETS_DEVICE) (table.bare 0 (msg RESET_DEVICE) >> on RESET_DEVICE device.ResetDevice) (then' RESET_DEVICE (table.bare 0 (msg RESET_DEVICE)) (on RESET_DEVICE device.ResetDevice) (λ d x b sized says alive fds gives d' x' b' holds says'. acks s standard RESET_DEVICE need body s refl refl x x' d' holds says'))

@@ -13,8 +13,8 @@ use Rattle.vhost_link.specs.Law.{Refused, Move, Moved}
 use Rattle.vhost_link.specs.Mem.{event}
 use Rattle.vhost_link.specs.declared.cut.Cut.{Cut}
 use Rattle.vhost_link.specs.declared.plain.PlainHandle.{PlainHandle}
-use Rattle.vhost_endpoint.specs.Requests.{Stops}
-use Rattle.vhost_endpoint.specs.Talk.{Fell}
+use Rattle.vhost_connection.specs.Requests.{Stops}
+use Rattle.vhost_connection.specs.Talk.{Fell}
 use Rattle.vhost_c_common.specs.View.{End}
 use Rattle.vhost_c_common.specs.declared.refusal.Refusal.TheVariants.{Protocol}
 use Rattle.vhost_c_joined.specs.Device.{is_want}

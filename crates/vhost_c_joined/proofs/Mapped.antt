@@ -8,7 +8,7 @@ use Rattle.std.proofs.lemmas.Nat.{div-mul-add}
 use Rattle.byteorder.specs.Numbers.{little_number-reads_back}
 use Rattle.vhost_message.specs.Text.{digits}
 use Rattle.vhost_message.specs.Records.{region_at, region_text, regions_of}
-use Rattle.vhost_message.specs.declared.frontend_req.FrontendReq.{FrontendReq}
+use Rattle.vhost_message.specs.declared.heard_req.HeardReq.{HeardReq}
 use Rattle.vhost_message.specs.declared.limits.TheConstants.{MAX_MEM_REGIONS, MEMORY_REGION_SIZE}
 use Rattle.vhost_message.specs.declared.records.memory.VhostUserMemoryRegion.{VhostUserMemoryRegion}
 use Rattle.vhost_message.specs.declared.records.memory.VhostUserSingleMemoryRegion.{VhostUserSingleMemoryRegion}
@@ -50,7 +50,7 @@ as-many [] (b ∷ bs) long = absurd (omega (arith, long))
 as-many (r ∷ rs) [] long = absurd (omega (arith, long))
 as-many (r ∷ rs) (b ∷ bs) long = ap suc (as-many rs bs (omega (arith, long)))
 
-pub table-back : (q : FrontendReq) (rs : List Region) (bs : List ℕ) → length bs ≡ length rs → length bs ≤ MAX_MEM_REGIONS → All (λ base. base < 2 ^ 64) bs → told_bases (text_in q (Replied (Regions (rebased rs bs)) [])) ≡ bs
+pub table-back : (q : HeardReq) (rs : List Region) (bs : List ℕ) → length bs ≡ length rs → length bs ≤ MAX_MEM_REGIONS → All (λ base. base < 2 ^ 64) bs → told_bases (text_in q (Replied (Regions (rebased rs bs)) [])) ≡ bs
 table-back q rs bs long few fits = ap (λ n. bases_in (regions_of n text)) count ∙ read-back rs bs long fits
   where
     text : List ℕ
@@ -65,5 +65,5 @@ table-back q rs bs long few fits = ap (λ n. bases_in (regions_of n text)) count
         capped : (n : ℕ) → n ≤ MAX_MEM_REGIONS → min n MAX_MEM_REGIONS ≡ n
         capped n few = omega (arith, few)
 
-pub region-back : (q : FrontendReq) (v : VhostUserSingleMemoryRegion) (b : ℕ) → b < 2 ^ 64 → told_bases (text_in q (Replied (OneRegion (rebased_region v b)) [])) ≡ b ∷ []
+pub region-back : (q : HeardReq) (v : VhostUserSingleMemoryRegion) (b : ℕ) → b < 2 ^ 64 → told_bases (text_in q (Replied (OneRegion (rebased_region v b)) [])) ≡ b ∷ []
 region-back q v b fits = ap (λ x. x ∷ []) (little_number-reads_back 8 b (digits 8 v.region.mmap_offset) fits)

@@ -2,8 +2,8 @@
 use Rattle.std.proofs.Common.{◌≡◌, inl, inr, ℕ, Bool, true, false, cond, [], Result, Ok, Err, refl, sym, ◌∙◌, ap, subst}
 use Rattle.std.specs.Prelude.{◌&&◌}
 use Rattle.vhost_message.specs.Bits.{has_bit}
-use Rattle.vhost_message.specs.declared.frontend_req.FrontendReq.{FrontendReq}
-use Rattle.vhost_message.specs.declared.frontend_req.FrontendReq.TheVariants.{GET_FEATURES}
+use Rattle.vhost_message.specs.declared.heard_req.HeardReq.{HeardReq}
+use Rattle.vhost_message.specs.declared.heard_req.HeardReq.TheVariants.{GET_FEATURES}
 use Rattle.vhost_protocol.specs.Agreement.{OffersBit}
 use Rattle.vhost_protocol.specs.Answered.{with_features}
 use Rattle.vhost_protocol.specs.Ask.{Asked, Sends, ask, needs_reply}
@@ -21,8 +21,8 @@ use Rattle.vhost_protocol.specs.Split.{Message}
 use Rattle.vhost_protocol.specs.Step.{Outcome}
 use Rattle.vhost_protocol.specs.Written.{Written}
 use Rattle.vhost_link.specs.declared.plain.PlainHandle.{PlainHandle}
-use Rattle.vhost_serving_core.specs.Concluding.{number_in}
-use Rattle.vhost_serving_core.specs.declared.answer.DeviceAnswer.{DeviceAnswer}
+use Rattle.vhost_backend_req_handler_core.specs.Concluding.{number_in}
+use Rattle.vhost_backend_req_handler_core.specs.declared.answer.DeviceAnswer.{DeviceAnswer}
 use Rattle.vhost_c_backend.specs.Replies.{Gives}
 use Rattle.vhost_c_backend.specs.declared.replies.Form.TheVariants as form
 use Rattle.vhost_c_backend.specs.declared.replies.Reply.{Reply}
@@ -49,7 +49,7 @@ offered-number r n bit offers (a, says, b, is) = said-number r a n bit offers sa
 
 -- ---- the features
 
-abbrev features_request : Bool → Message FrontendReq PlainHandle
+abbrev features_request : Bool → Message HeardReq PlainHandle
 features_request need_reply = record { request = GET_FEATURES; reply = false; need_reply = need_reply; body = []; handles = [] }
 
 -- nothing is written in the place of the features
@@ -77,13 +77,13 @@ features-offer r bit offers s n false o plain (told, (a, given, same), is) =
     by (Err e) given = tt
 
 -- whatever is asked
-pub offers-so : (r : Reply) (bit : Bool) (f : Frontend) (s : Session) (call : FrontendCall PlainHandle) (w : Written FrontendReq PlainHandle) (awaited : Awaited) (g : Frontend) (o : Outcome PlainHandle) → Offers bit call r → has_bit f.header_flags 2 ≡ false → ask f call ≡ Sends w awaited g
+pub offers-so : (r : Reply) (bit : Bool) (f : Frontend) (s : Session) (call : FrontendCall PlainHandle) (w : Written HeardReq PlainHandle) (awaited : Awaited) (g : Frontend) (o : Outcome PlainHandle) → Offers bit call r → has_bit f.header_flags 2 ≡ false → ask f call ≡ Sends w awaited g
     → Meets (replies r) (opens r) (opens r) s tt (read_as w) o tt → OffersBit bit call o.served
 offers-so r bit f s GetFeatures w awaited g o offers plain asked met =
     let same : record { request = GET_FEATURES; reply = has_bit f.header_flags 2; need_reply = needs_reply f; body = []; handles = [] } ≡ read_as w = ap {A = Asked PlainHandle} message-of asked in
-    features-offer r bit offers s (needs_reply f) (has_bit f.header_flags 2) o plain (subst {A = Message FrontendReq PlainHandle} (λ m. Meets (replies r) (opens r) (opens r) s tt m o tt) (sym same) met)
+    features-offer r bit offers s (needs_reply f) (has_bit f.header_flags 2) o plain (subst {A = Message HeardReq PlainHandle} (λ m. Meets (replies r) (opens r) (opens r) s tt m o tt) (sym same) met)
   where
-    message-of : Asked PlainHandle → Message FrontendReq PlainHandle
+    message-of : Asked PlainHandle → Message HeardReq PlainHandle
     message-of (Sends v a h) = read_as v
     message-of _ = features_request false
 offers-so r bit f s _ w awaited g o offers plain asked met = tt

@@ -3,9 +3,9 @@ use Rattle.std.proofs.Common.{◌≡◌, ◌⊎◌, ◌<◌, ◌≤◌, ◌+◌,
 use Rattle.std.specs.Prelude.{if◌then◌else◌}
 use Rattle.std.proofs.lemmas.Bool.{lt-ltb}
 use Rattle.vhost_message.specs.Header.{Header, header_of, header_text}
-use Rattle.vhost_message.specs.declared.frontend_req.FrontendReq.{FrontendReq}
+use Rattle.vhost_message.specs.declared.heard_req.HeardReq.{HeardReq}
 use Rattle.vhost_message.specs.declared.limits.TheConstants.{MAX_MSG_SIZE, MAX_MSG_TEXT}
-use Rattle.vhost_message.specs.FrontendReq.{request_number, is_named}
+use Rattle.vhost_message.specs.HeardReq.{request_number, is_named}
 use Rattle.vhost_protocol.specs.AnswerTable.{Answered, answer}
 use Rattle.vhost_protocol.specs.declared.asked.Awaited.{Awaited}
 use Rattle.vhost_protocol.specs.declared.asked.Awaited.TheVariants.{Nobody, Ack, Reply}
@@ -18,7 +18,7 @@ use Rattle.vhost_protocol.specs.Written.{Written, Payload, U64, head_of, payload
 use Rattle.vhost_protocol.proofs.TakeLaws.{reply-known}
 use Rattle.vhost_protocol.proofs.TextLaws.{request-small}
 use Rattle.vhost_link.specs.declared.plain.PlainHandle.{PlainHandle}
-use Rattle.vhost_serving.specs.Serving.{reply_cells}
+use Rattle.vhost_backend_req_handler.specs.Serving.{reply_cells}
 use Rattle.vhost_c_common.specs.declared.incoming.Incoming.{Incoming}
 use Rattle.vhost_c_frontend.specs.Incoming.{is_sized, least, missing_from}
 use Rattle.vhost_c_joined.specs.Wire.{HasCome, IsTold}
@@ -30,12 +30,12 @@ abbrev pub handles_in : Served PlainHandle → List PlainHandle
 handles_in (Replied payload hs) = hs
 handles_in _ = []
 
-abbrev pub text_in : FrontendReq → Served PlainHandle → List ℕ
+abbrev pub text_in : HeardReq → Served PlainHandle → List ℕ
 text_in r Silent = []
 text_in r (Acknowledged agreed) = written_text request_number (reply_to {H = PlainHandle} r (U64 (if agreed then 0 else 1)) [])
 text_in r (Replied payload hs) = written_text request_number (reply_to r payload hs)
 
-pub as-cells : (r : FrontendReq) (served : Served PlainHandle) → reply_cells r served ≡ carrying (handles_in served) (text_in r served)
+pub as-cells : (r : HeardReq) (served : Served PlainHandle) → reply_cells r served ≡ carrying (handles_in served) (text_in r served)
 as-cells r Silent = refl
 as-cells r (Acknowledged agreed) = refl
 as-cells r (Replied payload hs) = refl
@@ -47,8 +47,8 @@ pub record IsHeardBy (call : FrontendCall PlainHandle) (awaited : Awaited) (text
   pub sized : (i : Incoming) → HasCome text i → missing_from Standard call awaited i ≡ 0 → is_sized Standard call awaited (header_of i.head).size ≡ true
 
 -- a reply
-module _ (call : FrontendCall PlainHandle) (awaited : Awaited) (r : FrontendReq) (payload : Payload) (hs : List PlainHandle) (named : is_named r ≡ true) (some : awaited ≡ Nobody → ⊥) where
-  abbrev w : Written FrontendReq PlainHandle
+module _ (call : FrontendCall PlainHandle) (awaited : Awaited) (r : HeardReq) (payload : Payload) (hs : List PlainHandle) (named : is_named r ≡ true) (some : awaited ≡ Nobody → ⊥) where
+  abbrev w : Written HeardReq PlainHandle
   w = reply_to r payload hs
 
   written-heard : length (payload_text payload) ≤ MAX_MSG_SIZE → least awaited ≤ length (payload_text payload) → is_sized Standard call awaited (length (payload_text payload)) ≡ true → IsHeardBy call awaited (written_text request_number w)
@@ -86,7 +86,7 @@ silent-sized call (Reply s) i none whole = absurd (early (missing_from Standard 
     early m c k is none whole = omega arith
 
 -- what was served, where the answer table knows it
-pub heard-by : (call : FrontendCall PlainHandle) (awaited : Awaited) (g : Frontend) (r : FrontendReq) (served : Served PlainHandle) (a : Answered PlainHandle) → is_named r ≡ true → IsAwaitedBy call awaited → IsGoodReply call served → answer call awaited g served ≡ Some a → IsHeardBy call awaited (text_in r served)
+pub heard-by : (call : FrontendCall PlainHandle) (awaited : Awaited) (g : Frontend) (r : HeardReq) (served : Served PlainHandle) (a : Answered PlainHandle) → is_named r ≡ true → IsAwaitedBy call awaited → IsGoodReply call served → answer call awaited g served ≡ Some a → IsHeardBy call awaited (text_in r served)
 heard-by call awaited g r Silent a named same good known = record { few = omega arith; told = inl refl; sized = λ i has none. silent-sized call awaited i has.count none }
 heard-by call Ack g r (Acknowledged agreed) a named same good known = written-heard call Ack r (U64 (if agreed then 0 else 1)) [] named (λ is. cc is) (lit< tt) (omega arith) refl
 heard-by call (Reply shape) g r (Replied payload hs) a named same good known =

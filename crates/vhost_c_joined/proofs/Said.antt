@@ -3,15 +3,15 @@ use Rattle.std.proofs.Common.{◌≡◌, ◌⊎◌, inl, inr, ℕ, ◌<◌, ◌^
 use Rattle.std.specs.Prelude.{All, ◌==◌, is_ok, if◌then◌else◌}
 use Rattle.std.proofs.lemmas.List.Elements.{All-head}
 use Rattle.vhost_message.specs.declared.error.Error.TheVariants as code
-use Rattle.vhost_message.specs.declared.frontend_req.FrontendReq.{FrontendReq}
+use Rattle.vhost_message.specs.declared.heard_req.HeardReq.{HeardReq}
 use Rattle.vhost_message.specs.declared.records.inflight.VhostUserInflight.{VhostUserInflight}
 use Rattle.vhost_message.specs.declared.records.vring.VhostUserVringState.{VhostUserVringState}
 use Rattle.vhost_message.specs.RecordLaws.{InflightFits}
 use Rattle.vhost_protocol.specs.Error.{Error}
 use Rattle.vhost_link.specs.declared.plain.PlainHandle.{PlainHandle}
-use Rattle.vhost_serving_core.specs.Concluding.{Beside, base_in, bases_in, done_in, handle_in, inflight_in, number_in, ring_state_in, shmem_in, state_handle_in}
-use Rattle.vhost_serving_core.specs.declared.answer.DeviceAnswer.{DeviceAnswer}
-use Rattle.vhost_serving_core.specs.declared.answer.DeviceAnswer.TheVariants as answer
+use Rattle.vhost_backend_req_handler_core.specs.Concluding.{Beside, base_in, bases_in, done_in, handle_in, inflight_in, number_in, ring_state_in, shmem_in, state_handle_in}
+use Rattle.vhost_backend_req_handler_core.specs.declared.answer.DeviceAnswer.{DeviceAnswer}
+use Rattle.vhost_backend_req_handler_core.specs.declared.answer.DeviceAnswer.TheVariants as answer
 use Rattle.vhost_c_common.specs.Records as records
 use Rattle.vhost_c_common.specs.Records.{fd_in}
 use Rattle.vhost_c_backend.specs.Replies as device_replies
@@ -167,7 +167,7 @@ said-base b text (reply.Bases given) x holds (inr (inr bad, is)) = absurd bad
 said-base b text _ x holds says = absurd holds
 
 -- an acknowledgement has no region
-pub acked-bare : (r : FrontendReq) (w k : Bool) → told_bases (text_in r (acking w k)) ≡ []
+pub acked-bare : (r : HeardReq) (w k : Bool) → told_bases (text_in r (acking w k)) ≡ []
 acked-bare r true true = refl
 acked-bare r true false = refl
 acked-bare r false k = refl

@@ -6,9 +6,9 @@ use Rattle.std.proofs.lemmas.List.{drop_all}
 use Rattle.vhost_protocol.specs.FrontendCall.{FrontendCall}
 use Rattle.vhost_protocol.specs.Session.{Session as Memory}
 use Rattle.vhost_link.specs.declared.plain.PlainHandle.{PlainHandle}
-use Rattle.vhost_serving_core.specs.Session.{session_of}
-use Rattle.vhost_serving.specs.declared.halves.Pending.{Pending}
-use Rattle.vhost_serving.specs.declared.service.Service.{Service}
+use Rattle.vhost_backend_req_handler_core.specs.Session.{session_of}
+use Rattle.vhost_backend_req_handler.specs.declared.halves.Pending.{Pending}
+use Rattle.vhost_backend_req_handler.specs.declared.service.Service.{Service}
 use Rattle.vhost_c_common.specs.View.{End}
 use Rattle.vhost_c_common.specs.declared.incoming.Incoming.{Incoming}
 use Rattle.vhost_c_backend.specs.Calls.{asked_number}

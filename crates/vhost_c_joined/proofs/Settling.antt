@@ -4,8 +4,8 @@ use Rattle.std.specs.Prelude.{⊤, ◌&&◌, ◌||◌, not, is_ok, is_err, is_so
 use Rattle.std.specs.Int.Bits.{or_add_and}
 use Rattle.std.proofs.lemmas.Nat.{and_or_self}
 use Rattle.byteorder.specs.Numbers.{little_number-reads_back}
-use Rattle.vhost_message.specs.declared.frontend_req.FrontendReq.{FrontendReq}
-use Rattle.vhost_message.specs.declared.frontend_req.FrontendReq.TheVariants.{POSTCOPY_LISTEN, POSTCOPY_END, GET_INFLIGHT_FD}
+use Rattle.vhost_message.specs.declared.heard_req.HeardReq.{HeardReq}
+use Rattle.vhost_message.specs.declared.heard_req.HeardReq.TheVariants.{POSTCOPY_LISTEN, POSTCOPY_END, GET_INFLIGHT_FD}
 use Rattle.vhost_message.specs.declared.postcopy.PostcopyState.TheVariants.{Listen, End}
 use Rattle.vhost_message.specs.declared.records.vring.VhostUserVringState.{VhostUserVringState}
 use Rattle.vhost_message.specs.declared.records.inflight.VhostUserInflight.{VhostUserInflight}
@@ -28,7 +28,7 @@ abbrev pub Out : Type 0
 Out = Outcome PlainHandle
 
 -- a request without descriptors that is no reply
-abbrev pub asking : FrontendReq → Bool → List ℕ → Message FrontendReq PlainHandle
+abbrev pub asking : HeardReq → Bool → List ℕ → Message HeardReq PlainHandle
 asking r need body = record { request = r; reply = false; need_reply = need; body = body; handles = [] }
 
 -- what is written, and what is remembered, are the same
@@ -41,7 +41,7 @@ abbrev pub acking : Bool → Bool → Served PlainHandle
 acking wants agreed = if wants then Acknowledged agreed else Silent
 
 -- how a result that is acknowledged is settled
-abbrev shape : (standard own listening wants agreed : Bool) → FrontendReq → List ℕ → Result ⊤ Error → Session → Out
+abbrev shape : (standard own listening wants agreed : Bool) → HeardReq → List ℕ → Result ⊤ Error → Session → Out
 shape standard own listening wants agreed r body answer s =
     let o : Out = record { answer = answer; served = acking wants agreed; session = s } in
     let q : Out = record { answer = answer; served = Silent; session = s } in
@@ -58,7 +58,7 @@ never-ends true x y is alive = cc alive
 never-ends false x y is alive = cc is
 
 module _ (s : Session) (standard : is_standard s.profile ≡ true) where
-  module _ (r : FrontendReq) (need : Bool) (body : List ℕ) (s' : Session) where
+  module _ (r : HeardReq) (need : Bool) (body : List ℕ) (s' : Session) where
     abbrev pub wants : Bool
     wants = ack_on s' && need
 
@@ -148,7 +148,7 @@ module _ (s : Session) (standard : is_standard s.profile ≡ true) where
         by false = none q
 
   -- a reply is told as it is
-  pub replied-is : (r : FrontendReq) (need : Bool) (body : List ℕ) (s' : Session) (p : Payload) (hs : List PlainHandle) → settled s (asking r need body) (replied s' p hs) ≡ replied s' p hs
+  pub replied-is : (r : HeardReq) (need : Bool) (body : List ℕ) (s' : Session) (p : Payload) (hs : List PlainHandle) → settled s (asking r need body) (replied s' p hs) ≡ replied s' p hs
   replied-is r need body s' p hs = ap (λ b. if b && false then spoken s (asking r need body) (silenced (replied s' p hs)) else replied s' p hs) standard
 
   -- ---- postcopy
@@ -218,17 +218,17 @@ module _ (s : Session) (standard : is_standard s.profile ≡ true) where
 
 -- ---- what a reply holds
 
-pub ring-back : (r : FrontendReq) (v : VhostUserVringState) → v.index < 2 ^ 32 → v.num < 2 ^ 32 → (told_word 12 (text_in r (Replied (RingState v) [])) ≡ v.index) × (told_word 16 (text_in r (Replied (RingState v) [])) ≡ v.num)
+pub ring-back : (r : HeardReq) (v : VhostUserVringState) → v.index < 2 ^ 32 → v.num < 2 ^ 32 → (told_word 12 (text_in r (Replied (RingState v) [])) ≡ v.index) × (told_word 16 (text_in r (Replied (RingState v) [])) ≡ v.num)
 ring-back r v small few = (little_number-reads_back 4 v.index (digits 4 v.num) small, little_number-reads_back 4 v.num [] few)
 
-pub acked-number : (r : FrontendReq) (k : Bool) → told_number (text_in r (Acknowledged k)) ≡ (if k then 0 else 1)
+pub acked-number : (r : HeardReq) (k : Bool) → told_number (text_in r (Acknowledged k)) ≡ (if k then 0 else 1)
 acked-number r true = refl
 acked-number r false = refl
 
-pub number-back : (r : FrontendReq) (n : ℕ) → n < 2 ^ 64 → told_number (text_in r (Replied (U64 n) [])) ≡ n
+pub number-back : (r : HeardReq) (n : ℕ) → n < 2 ^ 64 → told_number (text_in r (Replied (U64 n) [])) ≡ n
 number-back r n small = little_number-reads_back 8 n [] small
 
-pub area-back : (r : FrontendReq) (area : VhostUserInflight) (hs : List PlainHandle) → InflightFits area → told_area (text_in r (Replied (InflightArea area) hs)) ≡ area
+pub area-back : (r : HeardReq) (area : VhostUserInflight) (hs : List PlainHandle) → InflightFits area → told_area (text_in r (Replied (InflightArea area) hs)) ≡ area
 area-back r area hs fits = inflight-reads_back area fits
 
 pub or-again : (n m : ℕ) → bit_or (bit_or n m) m ≡ bit_or n m

@@ -1,8 +1,8 @@
 -- One call alone asks for a state.
 use Rattle.std.proofs.Common.{◌≡◌, ℕ, Bool, true, false, List, [], ◌∷◌, Option, Some, None, Result, Ok, Err, subst, ap}
 use Rattle.std.specs.Prelude.{⊤, cond}
-use Rattle.vhost_message.specs.declared.frontend_req.FrontendReq.{FrontendReq}
-use Rattle.vhost_message.specs.declared.frontend_req.FrontendReq.TheVariants.{ADD_MEM_REG, SET_DEVICE_STATE_FD, SET_MEM_TABLE}
+use Rattle.vhost_message.specs.declared.heard_req.HeardReq.{HeardReq}
+use Rattle.vhost_message.specs.declared.heard_req.HeardReq.TheVariants.{ADD_MEM_REG, SET_DEVICE_STATE_FD, SET_MEM_TABLE}
 use Rattle.vhost_protocol.specs.Ask.{Asked, Sends, ◌>>◌, ◌>>=◌, ask, asks, frontend_feature, given}
 use Rattle.vhost_protocol.specs.declared.asked.Shape.TheVariants as shape
 use Rattle.vhost_protocol.specs.Error.{Error}
@@ -12,7 +12,7 @@ use Rattle.vhost_protocol.specs.Written.{DeviceState}
 use Rattle.vhost_link.specs.declared.plain.PlainHandle.{PlainHandle}
 use Rattle.vhost_c_joined.specs.Judged.{GivesState, told_number}
 
-abbrev is_state : FrontendReq → Bool
+abbrev is_state : HeardReq → Bool
 is_state SET_DEVICE_STATE_FD = true
 is_state _ = false
 
@@ -44,7 +44,7 @@ module _ (text : List ℕ) where
   ruleset asking = (ask-then, ask-given, ask-cond, other)
 
   -- only regions are said to be mapped
-  mapped : (f : Frontend) (q : FrontendReq) → Stated text (ask f (PostcopyAckMemRegions q))
+  mapped : (f : Frontend) (q : HeardReq) → Stated text (ask f (PostcopyAckMemRegions q))
   mapped f SET_MEM_TABLE = other
   mapped f ADD_MEM_REG = other
   mapped f _ = tt

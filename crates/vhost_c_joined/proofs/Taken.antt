@@ -10,7 +10,7 @@ use Rattle.vhost_protocol.specs.FrontendCall.{FrontendCall, Frontend, Value}
 use Rattle.vhost_protocol.specs.Stream.{Cell}
 use Rattle.vhost_protocol.specs.Take.{take}
 use Rattle.vhost_link.specs.declared.plain.PlainHandle.{PlainHandle}
-use Rattle.vhost_endpoint.specs.Memory.{stream, TalksLaw}
+use Rattle.vhost_connection.specs.Memory.{stream, TalksLaw}
 use Rattle.vhost_frontend_core.specs.Taking.{unread, read}
 use Rattle.vhost_frontend_core.specs.Values.{answer_of}
 use Rattle.vhost_frontend_core.specs.ValueHalves.{TakesResult}

@@ -4,9 +4,9 @@ use Rattle.std.specs.Prelude.{not, is_some, nat_lt, if◌then◌else◌}
 use Rattle.std.proofs.lemmas.Bool.{ltb-true, ltb-false, lt-ltb, le-ltb}
 use Rattle.std.proofs.lemmas.List.{take-append-le}
 use Rattle.byteorder.specs.Numbers.{little_from-take}
-use Rattle.vhost_message.specs.declared.frontend_req.FrontendReq.{FrontendReq}
+use Rattle.vhost_message.specs.declared.heard_req.HeardReq.{HeardReq}
 use Rattle.vhost_message.specs.declared.limits.TheConstants.{MAX_MSG_SIZE}
-use Rattle.vhost_message.specs.FrontendReq.{request_number, request_of}
+use Rattle.vhost_message.specs.HeardReq.{request_number, request_of}
 use Rattle.vhost_message.specs.Header.{Header, header_of, header_text, is_valid_header}
 use Rattle.vhost_protocol.specs.FrontendCall.{FrontendCall}
 use Rattle.vhost_protocol.specs.declared.asked.Awaited.{Awaited}
@@ -36,7 +36,7 @@ come-header came left text i whole has many =
 abbrev pub waits : FrontendCall PlainHandle → Awaited → Incoming → ℕ
 waits call awaited i = if not (is_sized Standard call awaited (header_of i.head).size) then 0 else missing_by request_of i
 
-module _ (w : Written FrontendReq PlainHandle) (known : request_number w.request < 2 ^ 32) (small : length (payload_text w.payload) ≤ MAX_MSG_SIZE) where
+module _ (w : Written HeardReq PlainHandle) (known : request_number w.request < 2 ^ 32) (small : length (payload_text w.payload) ≤ MAX_MSG_SIZE) where
   abbrev head : Header
   head = head_of request_number w
 
@@ -82,18 +82,18 @@ module _ (w : Written FrontendReq PlainHandle) (known : request_number w.request
           let l = late (missing i) i.count (length came) (length left) size (behind i many (come-header came left (written_text request_number w) i whole has far ∙ text-header)) has.count both in
           (l.0, λ zero. none left (l.1 zero))
 
-  abbrev rest : (ℕ → Option FrontendReq) → Incoming → ℕ
+  abbrev rest : (ℕ → Option HeardReq) → Incoming → ℕ
   rest code i = if is_some (announced code (header_of i.head)) then 12 + (header_of i.head).size - i.count else 0
 
   -- behind the header it is what that announces
-  pub behind : (code : ℕ → Option FrontendReq) → is_some (announced code head) ≡ true → (i : Incoming) → 12 ≤ i.count → header_of i.head ≡ head → missing_by code i ≡ 12 + size - i.count
+  pub behind : (code : ℕ → Option HeardReq) → is_some (announced code head) ≡ true → (i : Incoming) → 12 ≤ i.count → header_of i.head ≡ head → missing_by code i ≡ 12 + size - i.count
   behind code heard i many is =
       ap (λ b. if b then 12 - i.count else rest code i) (le-ltb i.count 12 many)
       ∙ ap {A = Header} (λ h. if is_some (announced code h) then 12 + h.size - i.count else 0) is
       ∙ ap (λ b. if b then 12 + size - i.count else 0) heard
 
   -- a request
-  pub request-told : (code : ℕ → Option FrontendReq) → is_some (announced code head) ≡ true → IsTold (written_text request_number w) (missing_by code)
+  pub request-told : (code : ℕ → Option HeardReq) → is_some (announced code head) ≡ true → IsTold (written_text request_number w) (missing_by code)
   request-told code heard = told-by 0 (missing_by code) (omega arith) (λ i few. ap (λ b. if b then 12 - i.count else rest code i) (lt-ltb i.count 12 few)) (behind code heard)
 
   -- a reply that has the size of what is awaited

@@ -3,10 +3,10 @@ use Rattle.std.proofs.Common.{◌≡◌, ℕ, ℤ, ◌+◌, ◌<◌, ◌≤◌, 
 use Rattle.std.specs.Prelude.{All, is_some, if◌then◌else◌}
 use Rattle.vhost_message.specs.Bits.{has_bit}
 use Rattle.vhost_message.specs.Header.{header_text}
-use Rattle.vhost_message.specs.declared.frontend_req.FrontendReq.{FrontendReq}
-use Rattle.vhost_message.specs.declared.frontend_req.FrontendReq.TheVariants.{SET_DEVICE_STATE_FD}
+use Rattle.vhost_message.specs.declared.heard_req.HeardReq.{HeardReq}
+use Rattle.vhost_message.specs.declared.heard_req.HeardReq.TheVariants.{SET_DEVICE_STATE_FD}
 use Rattle.vhost_message.specs.declared.limits.TheConstants.{MAX_MSG_SIZE}
-use Rattle.vhost_message.specs.FrontendReq.{request_number}
+use Rattle.vhost_message.specs.HeardReq.{request_number}
 use Rattle.vhost_protocol.specs.Ask.{Asked, Refuses, Answers, Sends, ask}
 use Rattle.vhost_protocol.specs.FrontendCall.{FrontendCall}
 use Rattle.vhost_protocol.specs.Handler.{Follows, Meets}
@@ -26,9 +26,9 @@ use Rattle.vhost_protocol.proofs.HeardLaws.{awaits-shape}
 use Rattle.vhost_protocol.proofs.SendLaws.{sends-whole}
 use Rattle.vhost_link.proofs.Cells.{bytes-carrying}
 use Rattle.vhost_link.specs.declared.plain.PlainHandle.{PlainHandle}
-use Rattle.vhost_serving.specs.Serving.{reply_cells}
+use Rattle.vhost_backend_req_handler.specs.Serving.{reply_cells}
 use Rattle.vhost_frontend_core.specs.ValueHalves.{IsProper}
-use Rattle.vhost_serving_core.specs.Concluding.{answer_in}
+use Rattle.vhost_backend_req_handler_core.specs.Concluding.{answer_in}
 use Rattle.vhost_c_backend.specs.Calls.{asked_number, device_number}
 use Rattle.vhost_c_backend.specs.Served as served
 use Rattle.vhost_c_backend.specs.Serving.{row}
@@ -58,8 +58,8 @@ Call = FrontendCall PlainHandle
 
 -- ---- both outcomes are the same
 
-module _ (s : Memory) (standard : is_standard s.profile ≡ true) (r : FrontendReq) (need : Bool) (body : List ℕ) (hs : List PlainHandle) (d d' : Reply) (sized : IsSized d) where
-  abbrev m : Message FrontendReq PlainHandle
+module _ (s : Memory) (standard : is_standard s.profile ≡ true) (r : HeardReq) (need : Bool) (body : List ℕ) (hs : List PlainHandle) (d d' : Reply) (sized : IsSized d) where
+  abbrev m : Message HeardReq PlainHandle
   m = bringing r need body hs
 
   -- what a reply tells of an outcome
@@ -90,16 +90,16 @@ module _ (s : Memory) (standard : is_standard s.profile ≡ true) (r : FrontendR
 
 -- ---- messages
 
-header-some : (w : Written FrontendReq PlainHandle) → 0 < length (written_text request_number w)
+header-some : (w : Written HeardReq PlainHandle) → 0 < length (written_text request_number w)
 header-some w = by (length (payload_text w.payload)) (length-append (header_text (head_of request_number w)) (payload_text w.payload))
   where
     by : (n : ℕ) → length (written_text request_number w) ≡ 12 + n → 0 < length (written_text request_number w)
     by n is = omega (arith, is)
 
-first-sent : (w : Written FrontendReq PlainHandle) → first_handles (written_cells request_number w) ≡ w.handles
+first-sent : (w : Written HeardReq PlainHandle) → first_handles (written_cells request_number w) ≡ w.handles
 first-sent w = refl
 
-first-replied : (q : FrontendReq) (x : Wrote PlainHandle) → first_handles (reply_cells q x) ≡ handles_in x
+first-replied : (q : HeardReq) (x : Wrote PlainHandle) → first_handles (reply_cells q x) ≡ handles_in x
 first-replied q Silent = refl
 first-replied q (Acknowledged agreed) = refl
 first-replied q (Replied payload hs) = refl
@@ -118,11 +118,11 @@ module _ (bit : Bool) (call : Call) (r : Reply) (e : Exchange) (f f' : Session) 
   Exchanged x = protocol.Exchanges (replies r) (opens r) (opens r) (session.remembers f) (served.remembers b) tt call x shown (session.remembers f') (served.remembers b') tt
 
   -- the bytes of a request that went out
-  sent-text : (w : Written FrontendReq PlainHandle) → shown.request ≡ written_cells request_number w → written_text request_number w ≡ e.request.now
+  sent-text : (w : Written HeardReq PlainHandle) → shown.request ≡ written_cells request_number w → written_text request_number w ≡ e.request.now
   sent-text w is = sym (bytes-carrying w.handles (written_text request_number w)) ∙ ap (λ (cs : List (Cell PlainHandle)). bytes cs) (sym is) ∙ text-is e.request.now e.request_fds.now shown.request seen.request
 
   -- its descriptors
-  sent-fds : (w : Written FrontendReq PlainHandle) → All IsFd w.handles → shown.request ≡ written_cells request_number w → map handle_in e.request_fds.now ≡ map Some w.handles
+  sent-fds : (w : Written HeardReq PlainHandle) → All IsFd w.handles → shown.request ≡ written_cells request_number w → map handle_in e.request_fds.now ≡ map Some w.handles
   sent-fds w fds is = ap (map handle_in) (sym (ap (map fd_in) (sym (ap first_handles is ∙ first-sent w)) ∙ seen.request.numbers)) ∙ named-again w.handles fds
 
   -- no message went out
@@ -139,7 +139,7 @@ module _ (bit : Bool) (call : Call) (r : Reply) (e : Exchange) (f f' : Session) 
 
   -- one did
   pub record Went : Type 0 where
-    pub w : Written FrontendReq PlainHandle
+    pub w : Written HeardReq PlainHandle
     pub request : IsRequest w e.request.now e.request_fds.now judge
     pub reply : w.reply ≡ false
     pub own : w.request ≡ SET_DEVICE_STATE_FD → ¬ (told_number e.reply.now ≡ 0x100)
@@ -179,10 +179,10 @@ module _ (bit : Bool) (call : Call) (r : Reply) (e : Exchange) (f f' : Session) 
 
   -- so the judge finds the reply right
   module _ (x : Went) where
-    abbrev w : Written FrontendReq PlainHandle
+    abbrev w : Written HeardReq PlainHandle
     w = x.w
 
-    abbrev request : Message FrontendReq PlainHandle
+    abbrev request : Message HeardReq PlainHandle
     request = bringing w.request w.need_reply (payload_text w.payload) w.handles
 
     as-bringing : read_as w ≡ request

@@ -3,8 +3,8 @@ use Rattle.std.proofs.Common.{◌≡◌, ◌⊎◌, inl, inr, ℕ, Bool, true, f
 use Rattle.std.proofs.lemmas.Bool.{ne_eqb}
 use Rattle.std.specs.Prelude.{◌<◌, ◌+◌, ◌*◌, flat_map, ⊤, ◌&&◌, ◌||◌, ◌==◌, not, is_some}
 use Rattle.vhost_message.specs.Bits.{has_bit}
-use Rattle.vhost_message.specs.declared.frontend_req.FrontendReq.{FrontendReq}
-use Rattle.vhost_message.specs.declared.frontend_req.FrontendReq.TheVariants.{ADD_MEM_REG, POSTCOPY_LISTEN, POSTCOPY_END}
+use Rattle.vhost_message.specs.declared.heard_req.HeardReq.{HeardReq}
+use Rattle.vhost_message.specs.declared.heard_req.HeardReq.TheVariants.{ADD_MEM_REG, POSTCOPY_LISTEN, POSTCOPY_END}
 use Rattle.vhost_message.specs.declared.limits.TheConstants.{MEMORY_REGION_SIZE}
 use Rattle.vhost_message.specs.declared.records.memory.VhostUserMemoryRegion.{VhostUserMemoryRegion}
 use Rattle.vhost_message.specs.Records.{memory_text, region_text, single_region}
@@ -35,7 +35,7 @@ table-long rs some =
 
 module _ (H : Type 0) (s : Session) where
   -- A reply is awaited of a request that has one, and an acknowledgement of one that asks for it, where that was agreed on.
-  abbrev WaitsWell : Awaited → Written FrontendReq H → Frontend → Type 0
+  abbrev WaitsWell : Awaited → Written HeardReq H → Frontend → Type 0
   WaitsWell Nobody w g = ⊤
   WaitsWell Ack w g = (w.need_reply ≡ true) × (has_bit g.acked_protocol_features REPLY_ACK ≡ true)
   WaitsWell (Reply shape) w g = has_reply w.request s (length (payload_text w.payload)) ≡ true
@@ -57,7 +57,7 @@ module _ (H : Type 0) (s : Session) where
   well-cond true x y h k = h refl
   well-cond false x y h k = k
 
-  well-ack : (f : Frontend) (r : FrontendReq) (payload : Payload) (handles : List H) → WaitsWell (awaited_ack f) (message f r payload handles) f
+  well-ack : (f : Frontend) (r : HeardReq) (payload : Payload) (handles : List H) → WaitsWell (awaited_ack f) (message f r payload handles) f
   well-ack f r payload handles = by (has_bit f.acked_protocol_features REPLY_ACK) (has_bit f.header_flags 3) (is_standard f.profile) refl
     where
       by : (a h p : Bool) → has_bit f.acked_protocol_features REPLY_ACK ≡ a → WaitsWell (cond (a && h) Ack Nobody) (record { request = r; reply = has_bit f.header_flags 2; need_reply = h && cond p a true; payload = payload; handles = handles }) f
@@ -66,14 +66,14 @@ module _ (H : Type 0) (s : Session) where
       by true false p is = tt
       by false h p is = tt
 
-  well-base : (f : Frontend) (r : FrontendReq) (payload : Payload) (handles : List H) → WaitsWell (cond (is_standard f.profile) (awaited_ack f) Nobody) (message f r payload handles) f
+  well-base : (f : Frontend) (r : HeardReq) (payload : Payload) (handles : List H) → WaitsWell (cond (is_standard f.profile) (awaited_ack f) Nobody) (message f r payload handles) f
   well-base f r payload handles = by (is_standard f.profile)
     where
       by : (p : Bool) → WaitsWell (cond p (awaited_ack f) Nobody) (message f r payload handles) f
       by true = well-ack f r payload handles
       by false = tt
 
-  well-turn : (f : Frontend) (r : FrontendReq) → WaitsWell (awaited_turn f) (turning f r) f
+  well-turn : (f : Frontend) (r : HeardReq) → WaitsWell (awaited_turn f) (turning f r) f
   well-turn f r = by (has_bit f.acked_protocol_features REPLY_ACK) (has_bit f.header_flags 3) (is_standard f.profile) refl
     where
       by : (a h p : Bool) → has_bit f.acked_protocol_features REPLY_ACK ≡ a → WaitsWell (cond p (cond a Ack Nobody) (cond (a && h) Ack Nobody)) (record (turning f r) { need_reply = cond p a (h && cond p a true) }) f
@@ -83,7 +83,7 @@ module _ (H : Type 0) (s : Session) where
       by true false false is = tt
       by false h false is = tt
 
-  well-end : (f : Frontend) (r : FrontendReq) → has_reply r s 0 ≡ true → WaitsWell (cond (is_standard f.profile) (Reply shape.U64) (awaited_ack f)) (turning f r) f
+  well-end : (f : Frontend) (r : HeardReq) → has_reply r s 0 ≡ true → WaitsWell (cond (is_standard f.profile) (Reply shape.U64) (awaited_ack f)) (turning f r) f
   well-end f r own = by (has_bit f.acked_protocol_features REPLY_ACK) (has_bit f.header_flags 3) (is_standard f.profile) refl
     where
       by : (a h p : Bool) → has_bit f.acked_protocol_features REPLY_ACK ≡ a → WaitsWell (cond p (Reply shape.U64) (cond (a && h) Ack Nobody)) (record (turning f r) { need_reply = cond p a (h && cond p a true) }) f
@@ -116,7 +116,7 @@ module _ (H : Type 0) (s : Session) where
 
   -- ---- so it is never silent
 
-  module _ (f g : Frontend) (call : FrontendCall H) (awaited : Awaited) (w : Written FrontendReq H) (o : Outcome H) (bit : Bool) (agree : AgreeOn f s) (asked : ask f call ≡ Sends w awaited g) (negotiated : Negotiates bit g)
+  module _ (f g : Frontend) (call : FrontendCall H) (awaited : Awaited) (w : Written HeardReq H) (o : Outcome H) (bit : Bool) (agree : AgreeOn f s) (asked : ask f call ≡ Sends w awaited g) (negotiated : Negotiates bit g)
       (well : AnswersWell s (read_as w) o) (alive : is_some o.session.failed ≡ false) (silent : o.served ≡ Silent) where
     waits : WaitsWell awaited w g
     waits = subst AsksWell asked (asks-well f call agree)

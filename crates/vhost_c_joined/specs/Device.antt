@@ -12,10 +12,10 @@ use Rattle.vhost_protocol.specs.Session.{Session as Memory}
 use Rattle.vhost_protocol.specs.Split.{split}
 use Rattle.vhost_protocol.specs.Step.{Outcome, done}
 use Rattle.vhost_link.specs.declared.plain.PlainHandle.{PlainHandle}
-use Rattle.vhost_serving_core.specs.Concluding.{Beside, answer_in, done_in}
-use Rattle.vhost_serving_core.specs.declared.answer.DeviceAnswer.{DeviceAnswer}
-use Rattle.vhost_serving.specs.Core as core
-use Rattle.vhost_serving.specs.Serving.{reply_cells}
+use Rattle.vhost_backend_req_handler_core.specs.Concluding.{Beside, answer_in, done_in}
+use Rattle.vhost_backend_req_handler_core.specs.declared.answer.DeviceAnswer.{DeviceAnswer}
+use Rattle.vhost_backend_req_handler.specs.Core as core
+use Rattle.vhost_backend_req_handler.specs.Serving.{reply_cells}
 use Rattle.vhost_c_common.specs.Records.{inflight_in}
 use Rattle.vhost_c_common.specs.declared.refusal.Refusal.{Refusal}
 use Rattle.vhost_c_common.specs.declared.refusal.Refusal.TheVariants.{Protocol}

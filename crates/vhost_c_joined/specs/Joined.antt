@@ -1,7 +1,7 @@
 -- A frontend's session and a backend's, joined: what the one hands out the other receives, in any pieces, and a device answers.
 use Rattle.std.specs.Prelude.{◌≡◌, ◌⊎◌, ℕ, All, Bool, true, false, List, [], ◌∷◌, ◌++◌, map, Some, None, Result, Ok, Err, ⊤, is_some}
 use Rattle.vhost_message.specs.Bits.{has_bit}
-use Rattle.vhost_message.specs.declared.frontend_req.FrontendReq.{FrontendReq}
+use Rattle.vhost_message.specs.declared.heard_req.HeardReq.{HeardReq}
 use Rattle.vhost_protocol.specs.Agreement.{Negotiates}
 use Rattle.vhost_protocol.specs.declared.profile.Profile.TheVariants.{Standard}
 use Rattle.vhost_protocol.specs.DeviceCall.{Call, Answer}
@@ -15,7 +15,7 @@ use Rattle.vhost_protocol.specs.Joined.{AgreeOn, Shown, JoinedStep, JoinedRun, r
 use Rattle.vhost_protocol.specs.Step.{Outcome}
 use Rattle.vhost_protocol.specs.Written.{Written}
 use Rattle.vhost_link.specs.declared.plain.PlainHandle.{PlainHandle}
-use Rattle.vhost_serving.specs.Core as core
+use Rattle.vhost_backend_req_handler.specs.Core as core
 use Rattle.vhost_frontend_core.specs.Frontend as frontend
 use Rattle.vhost_frontend_core.specs.Values.{answer_of, call_of}
 use Rattle.vhost_frontend_core.specs.declared.values.call.FrontendCall as code
@@ -88,7 +88,7 @@ result_of call f (Err (Protocol e)) result = result ≡ Err (seen e)
 result_of call f (Err r) result = ⊥
 
 -- The request of a call goes out, and this becomes of it by its row, whose call the device answers by this reply.
-pub record Meeting (call : FrontendCall PlainHandle) (r : Reply) (f : Session) (b : Served) (w : Written FrontendReq PlainHandle) (o : Outcome PlainHandle) : Type 0 where
+pub record Meeting (call : FrontendCall PlainHandle) (r : Reply) (f : Session) (b : Served) (w : Written HeardReq PlainHandle) (o : Outcome PlainHandle) : Type 0 where
   pub awaited : Awaited
   pub after : Frontend
   pub asked : ask (session.remembers f) call ≡ Sends w awaited after
@@ -101,7 +101,7 @@ Joins bit call r f b (Ok outcome) f' b' =
     × result_of call f' outcome shown.result × (shown.last ≡ false) × AreInStep bit f' b'
 Joins bit call r f b (Err (halt.WantsMemory why)) f' b' = is_want why ≡ true
 Joins bit call r f b (Err halt.Silent) f' b' = ⊥
-Joins bit call r f b (Err halt.Ended) f' b' = (w : Written FrontendReq PlainHandle) × (o : Outcome PlainHandle) × Meeting call r f b w o × (served.remembers b' ≡ o.session) × (is_some (served.remembers b').failed ≡ true)
+Joins bit call r f b (Err halt.Ended) f' b' = (w : Written HeardReq PlainHandle) × (o : Outcome PlainHandle) × Meeting call r f b w o × (served.remembers b' ≡ o.session) × (is_some (served.remembers b').failed ≡ true)
 
 -- ---- many calls
 

@@ -2,10 +2,10 @@
 use Rattle.std.specs.Prelude.{◌≡◌, ◌<◌, ◌==◌, ◌||◌, ℕ, zero, suc, ℤ, negsuc, Bool, true, false, List, [], ◌∷◌, ◌/◌, length, drop, map, min, nat_lt, None, Some, Result, Ok, Err, ⊤, if◌then◌else◌}
 use Rattle.vhost_message.specs.Records.{inflight_of, regions_of}
 use Rattle.vhost_message.specs.Text.{number_at}
-use Rattle.vhost_message.specs.declared.frontend_req.FrontendReq.{FrontendReq}
+use Rattle.vhost_message.specs.declared.heard_req.HeardReq.{HeardReq}
 use Rattle.vhost_message.specs.declared.limits.TheConstants.{MAX_MEM_REGIONS, MEMORY_REGION_SIZE}
 use Rattle.vhost_message.specs.declared.records.inflight.VhostUserInflight.{VhostUserInflight}
-use Rattle.vhost_message.specs.FrontendReq.{request_number}
+use Rattle.vhost_message.specs.HeardReq.{request_number}
 use Rattle.vhost_protocol.specs.AnswerTable.{bases_in}
 use Rattle.vhost_protocol.specs.FrontendCall.{FrontendCall, SetDeviceStateFd}
 use Rattle.vhost_protocol.specs.Handler.{Meets}
@@ -15,8 +15,8 @@ use Rattle.vhost_protocol.specs.Step.{Outcome}
 use Rattle.vhost_protocol.specs.Stream.{Cell, carrying, first_handles}
 use Rattle.vhost_protocol.specs.Written.{Written, written_text}
 use Rattle.vhost_link.specs.declared.plain.PlainHandle.{PlainHandle}
-use Rattle.vhost_serving.specs.Core as core
-use Rattle.vhost_serving.specs.Serving.{reply_cells}
+use Rattle.vhost_backend_req_handler.specs.Core as core
+use Rattle.vhost_backend_req_handler.specs.Serving.{reply_cells}
 use Rattle.vhost_c_common.specs.Records.{fd_in, handle_in, inflight_in}
 use Rattle.vhost_c_common.specs.View.{Hands}
 use Rattle.vhost_c_backend.specs.Calls.{asked_number}
@@ -149,7 +149,7 @@ pub record IsJudged (m : Request) (text : List ℕ) (fds : List ℤ) (old : Serv
   pub ready : same ≡ true → outcome.session.failed ≡ None → IsReady new
 
 -- The session is ready, and these bytes and descriptors are a message of a frontend.
-pub record IsRequest (w : Written FrontendReq PlainHandle) (request : List ℕ) (fds : List ℤ) (s : Served) : Type 0 where
+pub record IsRequest (w : Written HeardReq PlainHandle) (request : List ℕ) (fds : List ℤ) (s : Served) : Type 0 where
   pub ready : IsReady s
   pub sendable : IsSendable w
   pub text : request ≡ written_text request_number w
@@ -163,7 +163,7 @@ JudgesBy m text fds old (Err h) new = ⊥
 
 -- the same of an exchange
 abbrev pub Judges : Exchange → Served → Result Bool Halt → Served → Type 0
-Judges e old result new = (w : Written FrontendReq PlainHandle) → IsRequest w e.request.now e.request_fds.now old → JudgesBy (read_as w) e.reply.now e.reply_fds.now old result new
+Judges e old result new = (w : Written HeardReq PlainHandle) → IsRequest w e.request.now e.request_fds.now old → JudgesBy (read_as w) e.reply.now e.reply_fds.now old result new
 
 -- ---- a run of two sessions
 
@@ -224,7 +224,7 @@ IsGiven m old (Err (halt.WantsMemory why)) new = is_want why ≡ true
 IsGiven m old (Err h) new = ⊥
 
 abbrev pub Given : List ℕ → List ℤ → Served → Result ⊤ Halt → Served → Type 0
-Given request fds old result new = (w : Written FrontendReq PlainHandle) → IsRequest w request fds old → IsGiven (read_as w) old result new
+Given request fds old result new = (w : Written HeardReq PlainHandle) → IsRequest w request fds old → IsGiven (read_as w) old result new
 
 -- It was served by its row, as the reply says.
 pub record ServesAs (m : Request) (text : List ℕ) (fds : List ℤ) (old : Served) (result : Result ⊤ Halt) (new : Served) : Type 0 where

@@ -15,7 +15,7 @@ use std::collections::VecDeque;
 use vhost_c_backend::{Reply, Served};
 use vhost_c_common::Refusal;
 use vhost_c_frontend::Session;
-use vhost_endpoint::talks_law;
+use vhost_connection::talks_law;
 use vhost_frontend_core::FrontendCall;
 use vhost_message::Error;
 

@@ -14,7 +14,7 @@ use byteorder::{ByteOrder, LittleEndian};
 use std::alloc::Global;
 use vhost_c_backend::{Reply, Served};
 use vhost_c_common::{Inflight, Refusal};
-use vhost_endpoint::talks_law;
+use vhost_connection::talks_law;
 use vhost_message::{
     ByteValued, MAX_ATTACHED_FD_ENTRIES, MAX_MEM_REGIONS, MAX_MSG_TEXT, MEMORY_REGION_SIZE,
     MSG_HEADER_SIZE, VhostUserInflight, read_region,

@@ -71,6 +71,10 @@ Takes by refused head r q p = MatchResult r (λ _. by q (split.state q) head ≡
 abbrev pub TakesAgain : Result ⊤ Refusal → PackedQueue → PackedQueue → Type 0
 TakesAgain r q p = MatchResult r (λ _. packed.resubmitted q (packed.state q) ≡ Ok (true, packed.state p)) (Because (λ e. (packed.resubmitted q (packed.state q) ≡ Err e) × (packed.state p ≡ packed.state q)))
 
+-- a head is given back, or taken without being followed; a refusal changes nothing
+abbrev pub Alters : (ℕ → split.State → ℕ → Result split.State Error) → ℕ → Result ⊤ Refusal → Queue → Queue → Type 0
+Alters by head r q p = MatchResult r (λ _. by q.rings.size (split.state q) head ≡ Ok (split.state p)) (Because (λ e. (by q.rings.size (split.state q) head ≡ Err e) × (p ≡ q)))
+
 -- the device is done with a chain: what is to be written
 abbrev pub UsesSplit : ℕ → ℕ → Result Used Refusal → Queue → Queue → Type 0
 UsesSplit head len r q p =

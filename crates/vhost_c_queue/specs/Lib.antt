@@ -1,2 +1,3 @@
 pub mod DeviceQueue
 pub mod Number
+pub mod Walking

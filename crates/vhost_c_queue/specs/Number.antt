@@ -1,7 +1,7 @@
 -- The numbers of enum covretin_queue_error.
 use Rattle.std.specs.Prelude.{ℕ, Result, Ok, Err, ⊤}
 use Rattle.vhost_queue.specs.declared.error.Error.{Error}
-use Rattle.vhost_queue.specs.declared.error.Error.TheVariants.{InvalidRegion, RegionOverlap, TooManyRegions, NoSuchRegion, InvalidSize, Unaligned, InvalidBase, InvalidInflight, NotInGuest, EmptyDescriptor, NotInTable, DescriptorLoop, ChainTooLong, ReadableAfterWritable, UnexpectedIndirect, IndirectGoesOn, InvalidIndirectLength, TooManyAvailable, HeadInUse, NeedsReset, NothingAvailable, ChainEnded, NotHandedOut, OutOfMemory}
+use Rattle.vhost_queue.specs.declared.error.Error.TheVariants.{InvalidRegion, RegionOverlap, TooManyRegions, NoSuchRegion, InvalidSize, Unaligned, InvalidBase, InvalidInflight, NotInGuest, EmptyDescriptor, NotInTable, ChainTooLong, ReadableAfterWritable, UnexpectedIndirect, IndirectGoesOn, InvalidIndirectLength, TooManyAvailable, HeadInUse, NeedsReset, NothingAvailable, ChainEnded, NotHandedOut, OutOfMemory}
 use Rattle.vhost_c_queue.specs.declared.refusal.Refusal.{Refusal}
 use Rattle.vhost_c_queue.specs.declared.refusal.Refusal.TheVariants.{Queue, NoQueue, QueueOpen, NotStarted, OtherLayout, NoRoom}
 
@@ -17,7 +17,6 @@ error_number InvalidInflight = 8
 error_number NotInGuest = 9
 error_number EmptyDescriptor = 10
 error_number NotInTable = 11
-error_number DescriptorLoop = 12
 error_number ChainTooLong = 13
 error_number ReadableAfterWritable = 14
 error_number UnexpectedIndirect = 15

@@ -1,14 +1,18 @@
 //! A queue of either layout, and the memory that it sees.
 
 ghost use Rattle.std.specs.Prelude.{◌≡◌, [], ◌++◌, ◌∷◌, Ok, Err, OnOk, OnErr, IfOk, IfErr};
+ghost use Rattle.vhost_queue.specs.Chain.{following};
+ghost use Rattle.vhost_c_queue.specs.Walking.{table_at};
 
 use crate::bytes::as_packed;
-use crate::records::{EventWrite, PackedRing, SplitRing, Used};
+use crate::records::{EventWrite, PackedRing, SplitRing, Table, Used, Walked};
 use crate::refusal::Refusal;
+use crate::walking::put;
 use std::alloc::Global;
 use vhost_queue::{
-    AddressSpace, Descriptor, Error, EventSuppression, GuestMemory, GuestRegion, HostRange,
-    PackedConfig, PackedQueue, PackedRings, Position, Queue, QueueConfig, Rings, Segment,
+    AddressSpace, Descriptor, DescriptorChain, Error, EventSuppression, GuestMemory, GuestRegion,
+    HostRange, PackedConfig, PackedQueue, PackedRings, Position, Queue, QueueConfig, Rings,
+    Segment,
 };
 
 // What a number counts for above 32 bits.
@@ -29,13 +33,27 @@ pub struct DeviceQueue {
     ring: Ring,
 }
 
+// Where a chain goes on.
+fn table_of(chain: &DescriptorChain) -> Table
+    ensures { result ≡ table_at (following chain.now) }
+{
+    let next = chain.next();
+    Table {
+        range: chain.table(),
+        next: next.unwrap_or(0),
+        goes_on: next.is_some(),
+    }
+}
+
 impl DeviceQueue {
-    ghost use Rattle.std.specs.Prelude.{ℕ, ◌<◌, length, remove, slice_index_or, All, true, false};
+    ghost use Rattle.std.specs.Prelude.{ℕ, ◌<◌, length, is_some, remove, slice_index_or, All, true, false};
+    ghost use Rattle.vhost_queue.specs.Chain.{GoesOn};
+    ghost use Rattle.vhost_c_queue.specs.Walking.{Steps, Stops, WalksTo, chain_of};
     ghost use Rattle.vhost_queue.specs.Memory.{is_at, translated, AreRegions, Refuses, RefusesAll};
     ghost use Rattle.vhost_queue.specs.declared.error.Error.TheVariants.{NoSuchRegion};
-    ghost use Rattle.vhost_queue.specs.Queue.{broken, popped, refused_pop, resubmitted};
+    ghost use Rattle.vhost_queue.specs.Queue.{adopted, broken, given_back, popped, refused_pop, resubmitted};
     ghost use Rattle.vhost_queue.specs.declared.memory.GuestRegion.{GuestRegion};
-    ghost use Rattle.vhost_c_queue.specs.DeviceQueue.{Answers, ByLayout, HearsPacked, HearsSplit, StepsPacked, StepsSplit, Takes, TakesAgain, Because, IsPacked, IsSplit, MovesPacked, MovesSplit, RefusesPacked, RefusesSplit, StartsPacked, StartsSplit, StaysPacked, StaysSplit, TellsPacked, TellsSplit, UsesPacked, UsesSplit, available_place, base, descriptor_place, event_write, head_place, needs_reset, notification_place, regions};
+    ghost use Rattle.vhost_c_queue.specs.DeviceQueue.{Alters, Answers, ByLayout, HearsPacked, HearsSplit, Takes, TakesAgain, Because, IsPacked, IsSplit, MovesPacked, MovesSplit, RefusesPacked, RefusesSplit, StartsPacked, StartsSplit, StaysPacked, StaysSplit, TellsPacked, TellsSplit, UsesPacked, UsesSplit, available_place, base, descriptor_place, event_write, head_place, needs_reset, notification_place, regions};
     ghost use Rattle.vhost_c_queue.specs.declared.device_queue.Ring.TheVariants.{Stopped};
     ghost use Rattle.vhost_c_queue.specs.declared.refusal.Refusal.TheVariants.{NotStarted, OtherLayout};
 
@@ -52,7 +70,8 @@ impl DeviceQueue {
 
     /// The next descriptor was read as these 16 bytes: its segment, or none where it names an indirect table.
     pub fn step(&mut self, descriptor: Descriptor) -> Result<Option<Segment>, Refusal>
-        ensures steps { ByLayout (StepsSplit (regions self.old) descriptor result) (StepsPacked (regions self.old) descriptor result) (result ≡ Err NotStarted) self.old.ring self.new.ring }
+        ensures steps { Steps (regions self.old) descriptor result self.old.ring self.new.ring }
+        ensures goes_on { IfOk result (λ segment. GoesOn (regions self.old) (chain_of self.old.ring) segment (chain_of self.new.ring)) }
         ensures memory { regions self.new ≡ regions self.old }
     {
         match &mut self.ring {
@@ -65,6 +84,61 @@ impl DeviceQueue {
                 Ok(segment) => Ok(segment),
                 Err(error) => Err(Refusal::Queue(error)),
             },
+        }
+    }
+
+    /// The descriptors that come next were read as these, one behind the other: how far the chain was followed by them. They are not all taken
+    /// where the segments fill their places before. A refusal is one of `step`: of the first descriptor that is refused, and those before it were
+    /// taken.
+    pub fn walk(
+        &mut self,
+        copies: &[Descriptor],
+        segments: &mut [Segment],
+    ) -> Result<Walked, Refusal>
+        ensures ok { IfOk result (λ w. WalksTo (regions self.old) copies.now segments.new w self.old.ring self.new.ring) }
+        ensures err { IfErr result (λ f. Stops (regions self.old) copies.now f self.old.ring self.new.ring) }
+        ensures len { length segments.new ≡ length segments.old }
+        ensures memory { regions self.new ≡ regions self.old }
+    {
+        let mut taken = 0usize;
+        let mut count = 0usize;
+        while taken < copies.len() && count < segments.len() {
+            let segment = self.step(copies[taken])?;
+            count = put(segments, count, segment);
+            if !self.has_rest() {
+                taken += 1;
+            }
+        }
+        Ok(Walked {
+            taken,
+            count,
+            table: self.table(),
+        })
+    }
+
+    // Whether a descriptor's first bytes came, and the rest of it comes next.
+    fn has_rest(&self) -> bool
+        ensures { result ≡ is_some (chain_of self.now.ring).rest }
+    {
+        match &self.ring {
+            Ring::Stopped => false,
+            Ring::Split(queue) => queue.chain().has_rest(),
+            Ring::Packed(queue) => queue.chain().has_rest(),
+        }
+    }
+
+    /// Where the chain that is followed goes on.
+    pub fn table(&self) -> Table
+        ensures { result ≡ table_at (chain_of self.now.ring) }
+    {
+        match &self.ring {
+            Ring::Stopped => Table {
+                range: HostRange { addr: 0, len: 0 },
+                next: 0,
+                goes_on: false,
+            },
+            Ring::Split(queue) => table_of(queue.chain()),
+            Ring::Packed(queue) => table_of(queue.chain()),
         }
     }
 
@@ -306,6 +380,37 @@ impl DeviceQueue {
             Ring::Stopped => Err(Refusal::NotStarted),
             Ring::Packed(_) => Err(Refusal::OtherLayout),
             Ring::Split(queue) => match queue.resubmit(head) {
+                Ok(()) => Ok(()),
+                Err(error) => Err(Refusal::Queue(error)),
+            },
+        }
+    }
+
+    /// The last entry of a split queue's available ring that was read is to be read again, and this head of it is not the device's. The
+    /// chain that was followed is none any more.
+    pub fn give_back(&mut self, head: u16) -> Result<(), Refusal>
+        ensures gives_back { ByLayout (Alters given_back head result) (λ q p. (result ≡ Err OtherLayout) × (p ≡ q)) (result ≡ Err NotStarted) self.old.ring self.new.ring }
+        ensures memory { regions self.new ≡ regions self.old }
+    {
+        match &mut self.ring {
+            Ring::Stopped => Err(Refusal::NotStarted),
+            Ring::Packed(_) => Err(Refusal::OtherLayout),
+            Ring::Split(queue) => match queue.give_back(head) {
+                Ok(()) => Ok(()),
+                Err(error) => Err(Refusal::Queue(error)),
+            },
+        }
+    }
+
+    /// The chain of this head is a split queue's device's: it was taken before the queue was started. It is not followed.
+    pub fn adopt(&mut self, head: u16) -> Result<(), Refusal>
+        ensures adopts { ByLayout (Alters adopted head result) (λ q p. (result ≡ Err OtherLayout) × (p ≡ q)) (result ≡ Err NotStarted) self.old.ring self.new.ring }
+        ensures memory { regions self.new ≡ regions self.old }
+    {
+        match &mut self.ring {
+            Ring::Stopped => Err(Refusal::NotStarted),
+            Ring::Packed(_) => Err(Refusal::OtherLayout),
+            Ring::Split(queue) => match queue.adopt(head) {
                 Ok(()) => Ok(()),
                 Err(error) => Err(Refusal::Queue(error)),
             },

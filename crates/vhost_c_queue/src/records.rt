@@ -48,3 +48,23 @@ pub struct EventWrite {
     pub place: HostRange,
     pub value: u32,
 }
+
+/// Where a chain goes on: where the table is mapped that it is in, and which of that table's descriptors is to be read next:
+/// `covretin_table`.
+#[repr(C)]
+#[derive(Clone, Copy, Drop)]
+pub struct Table {
+    pub range: HostRange,
+    pub next: u16,
+    pub goes_on: bool,
+}
+
+/// How far a chain was followed: how many of the descriptors that were given are behind it, how many segments they are, and where it goes on:
+/// `covretin_walked`.
+#[repr(C)]
+#[derive(Clone, Copy, Drop)]
+pub struct Walked {
+    pub taken: usize,
+    pub count: usize,
+    pub table: Table,
+}

@@ -48,7 +48,6 @@ fn error_number(error: Error) -> u32
         Error::NotInGuest => 9,
         Error::EmptyDescriptor => 10,
         Error::NotInTable => 11,
-        Error::DescriptorLoop => 12,
         Error::ChainTooLong => 13,
         Error::ReadableAfterWritable => 14,
         Error::UnexpectedIndirect => 15,

@@ -11,3 +11,4 @@ mod plain_packed;
 mod rings;
 mod stepping;
 mod told;
+mod walking;

@@ -1,10 +1,11 @@
 //! What was read.
 
 ghost use Rattle.std.specs.Prelude.{◌≡◌, ℕ, Bool, Option, Result, Err, ⊤};
-ghost use Rattle.vhost_queue.specs.Queue.{broken, popped, refused_pop, resubmitted};
+ghost use Rattle.vhost_queue.specs.Queue.{adopted, broken, given_back, popped, refused_pop, resubmitted};
 ghost use Rattle.vhost_queue.specs.declared.descriptor.Segment.{Segment as Part};
-ghost use Rattle.vhost_c_queue.specs.DeviceQueue.{Answers, ByLayout, HearsPacked, HearsSplit, StepsPacked, StepsSplit, Takes, TakesAgain, TellsPacked, TellsSplit, UsesPacked, UsesSplit, regions};
+ghost use Rattle.vhost_c_queue.specs.DeviceQueue.{Alters, Answers, ByLayout, HearsPacked, HearsSplit, Takes, TakesAgain, TellsPacked, TellsSplit, UsesPacked, UsesSplit, regions};
 ghost use Rattle.vhost_c_queue.specs.Number.{outcome_number};
+ghost use Rattle.vhost_c_queue.specs.Walking.{Steps};
 ghost use Rattle.vhost_c_queue.specs.declared.records.Used.{Used as Elem};
 ghost use Rattle.vhost_c_queue.specs.declared.refusal.Refusal.{Refusal};
 ghost use Rattle.vhost_c_queue.specs.declared.refusal.Refusal.TheVariants.{NotStarted, OtherLayout};
@@ -66,6 +67,36 @@ pub extern "C" fn covretin_queue_resubmit(alloc: Global, queue: &mut QueueHolder
     }
 }
 
+/// The last entry of a split queue's available ring that was read is to be read again, and this head of it is not the device's.
+#[unsafe(no_mangle)]
+pub extern "C" fn covretin_queue_give_back(alloc: Global, queue: &mut QueueHolder, head: u16) -> u32
+    ensures { Calls (λ s t. (r : Result ⊤ Refusal) × (result ≡ outcome_number r) × ByLayout (Alters given_back head r) (λ q p. (r ≡ Err OtherLayout) × (p ≡ q)) (r ≡ Err NotStarted) s.ring t.ring × (regions t ≡ regions s)) queue.old.session result queue.new.session }
+{
+    match queue.take(alloc) {
+        None => number_of(Err(Refusal::NoQueue)),
+        Some(mut held) => {
+            let outcome = held.give_back(head);
+            queue.put(held);
+            number_of(outcome)
+        }
+    }
+}
+
+/// The chain of this head is a split queue's device's: it was taken before the queue was started. It is not followed.
+#[unsafe(no_mangle)]
+pub extern "C" fn covretin_queue_adopt(alloc: Global, queue: &mut QueueHolder, head: u16) -> u32
+    ensures { Calls (λ s t. (r : Result ⊤ Refusal) × (result ≡ outcome_number r) × ByLayout (Alters adopted head r) (λ q p. (r ≡ Err OtherLayout) × (p ≡ q)) (r ≡ Err NotStarted) s.ring t.ring × (regions t ≡ regions s)) queue.old.session result queue.new.session }
+{
+    match queue.take(alloc) {
+        None => number_of(Err(Refusal::NoQueue)),
+        Some(mut held) => {
+            let outcome = held.adopt(head);
+            queue.put(held);
+            number_of(outcome)
+        }
+    }
+}
+
 /// A chain was a packed queue's before a crash, and is followed again.
 #[unsafe(no_mangle)]
 pub extern "C" fn covretin_queue_resubmit_packed(alloc: Global, queue: &mut QueueHolder) -> u32
@@ -90,7 +121,7 @@ pub extern "C" fn covretin_queue_step(
     segment: &mut Segment,
     found: &mut bool,
 ) -> u32
-    ensures { Calls (λ s t. (r : Result (Option Part) Refusal) × SaidIf r result segment.old segment.new found.old found.new × ByLayout (StepsSplit (regions s) descriptor.now r) (StepsPacked (regions s) descriptor.now r) (r ≡ Err NotStarted) s.ring t.ring × (regions t ≡ regions s)) queue.old.session result queue.new.session }
+    ensures { Calls (λ s t. (r : Result (Option Part) Refusal) × SaidIf r result segment.old segment.new found.old found.new × Steps (regions s) descriptor.now r s.ring t.ring × (regions t ≡ regions s)) queue.old.session result queue.new.session }
 {
     match queue.take(alloc) {
         None => number_of(Err(Refusal::NoQueue)),

@@ -1,14 +1,14 @@
 //! Whether two records are the same: all their fields are.
 
 ghost use Rattle.std.specs.Prelude.{◌≡◌, ◌↔◌, IsTrue, map, not};
-ghost use Rattle.vhost_message.specs.FrontendReq.{is_named};
+ghost use Rattle.vhost_message.specs.HeardReq.{is_named};
 ghost use Rattle.vhost_frontend_core.specs.Regions.{info_of};
 ghost use Rattle.vhost_frontend_core.specs.Values.{log_region_of};
 
 use vhost_frontend_core::{LogRegion, RegionInfo};
 use vhost_link::PlainHandle;
 use vhost_message::{
-    FrontendReq, VhostUserConfig, VhostUserInflight, VhostUserMemoryRegion, VhostUserSharedMsg,
+    HeardReq, VhostUserConfig, VhostUserInflight, VhostUserMemoryRegion, VhostUserSharedMsg,
     VringConfigData,
 };
 
@@ -46,17 +46,17 @@ pub fn are_same_infos(a: &[RegionInfo<PlainHandle>], b: &[RegionInfo<PlainHandle
 
 /// Of two requests: their numbers are the same, and both have a name or none.
 #[tactic(auto, using(crate::proofs::Requests::same_request))]
-pub fn is_same_request(a: FrontendReq, b: FrontendReq) -> bool
+pub fn is_same_request(a: HeardReq, b: HeardReq) -> bool
     ensures { IsTrue result ↔ a ≡ b }
 {
     u32::from(a) == u32::from(b) && is_other(a) == is_other(b)
 }
 
 /// Whether a request has no name.
-fn is_other(code: FrontendReq) -> bool
+fn is_other(code: HeardReq) -> bool
     ensures { result ≡ not (is_named code) }
 {
-    matches!(code, FrontendReq::OTHER(_))
+    matches!(code, HeardReq::OTHER(_))
 }
 
 /// Of two places of a dirty log.

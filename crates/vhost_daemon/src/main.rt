@@ -13,7 +13,8 @@ use std::process::ExitCode;
 use std::sync::Wait;
 use std::thread::Threads;
 use std::{env, io, process};
-use vhost_serving::Open;
+use vhost_backend_req_handler::Open;
+pub use vhost_sockets::serve;
 use vhost_sockets::{ClaimError, Options, SocketPath, serve_path};
 
 /// What `--version` says.
@@ -107,7 +108,7 @@ where
         Err(refused) => {
             let _ = writeln!(errors, "vhost-daemon: {path}: {refused}");
             match refused {
-                ClaimError::Empty | ClaimError::TooLong(_) => usage(errors),
+                ClaimError::Empty => usage(errors),
                 _ => ExitCode::from(2),
             }
         }

@@ -2,7 +2,7 @@
 
 ghost use Rattle.vhost_backend_req.specs.declared.backend.Backend.{Backend};
 ghost use Rattle.vhost_gpu_backend_req.specs.declared.backend.GpuBackend.{GpuBackend};
-ghost use Rattle.vhost_serving_core.specs.Concluding.{seen_bases, seen_bytes};
+ghost use Rattle.vhost_backend_req_handler_core.specs.Concluding.{seen_bases, seen_bytes};
 ghost use Rattle.vhost_device.specs.Answers.{seen_bits};
 ghost use Rattle.vhost_message.specs.FlagBits.{config_bits, vring_addr_bits};
 ghost use Rattle.vhost_message.specs.Transfer.{direction_number, phase_number};

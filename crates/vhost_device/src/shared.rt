@@ -5,7 +5,7 @@ use vhost_backend_req::Backend;
 use vhost_gpu_backend_req::GpuBackend;
 use vhost_link::Link;
 use vhost_message::{
-    Result, VhostTransferStateDirection, VhostTransferStatePhase, VhostUserConfigFlags,
+    Error, Result, VhostTransferStateDirection, VhostTransferStatePhase, VhostUserConfigFlags,
     VhostUserInflight, VhostUserLog, VhostUserMemoryRegion, VhostUserMemoryRegionBase,
     VhostUserProtocolFeatures, VhostUserShMemConfig, VhostUserSharedMsg,
     VhostUserSingleMemoryRegion, VhostUserVringAddrFlags, VhostUserVringState,
@@ -215,14 +215,16 @@ pub trait VhostUserBackendReqHandler: Drop {
     ) -> Result<()>;
 
     /// Gives the device a request without a call of its own here, under `Profile::Standard`: its number, its body, and the
-    /// file descriptors that came with it. An error says that it is not served.
+    /// file descriptors that came with it. An error says that it is not served, as the device says that has no such call.
     ///
     /// Has no counterpart in `vhost`.
     fn other(
         &self,
-        rt: &impl Wait,
-        request: u32,
-        body: &[u8],
-        files: Vec<<Self::Link as Link>::Handle>,
-    ) -> Result<()>;
+        _rt: &impl Wait,
+        _request: u32,
+        _body: &[u8],
+        _files: Vec<<Self::Link as Link>::Handle>,
+    ) -> Result<()> {
+        Err(Error::InvalidMessage)
+    }
 }

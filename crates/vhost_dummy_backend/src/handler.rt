@@ -5,7 +5,7 @@ ghost use Rattle.vhost_message.specs.Bits.{has_bit as is_set};
 ghost use Rattle.vhost_protocol.specs.DeviceCall.{SetMemTable, SetVringKick, SetVringCall, SetVringErr, SetBackendReqFd, SetGpuSocket, Other};
 ghost use Rattle.vhost_protocol.specs.Error.{InactiveOperation, seen_result};
 ghost use Rattle.vhost_protocol.specs.Features.{CONFIG};
-ghost use Rattle.vhost_serving_core.specs.Concluding.{seen_bases};
+ghost use Rattle.vhost_backend_req_handler_core.specs.Concluding.{seen_bases};
 ghost use Rattle.vhost_backend_req.specs.declared.backend.Backend.{Backend};
 ghost use Rattle.vhost_gpu_backend_req.specs.declared.backend.GpuBackend.{GpuBackend};
 

@@ -1,7 +1,7 @@
 //! A link of one's own, and an endpoint that sends whole messages over it.
 
 use crate::loopback::Loopback;
-use vhost_endpoint::Endpoint;
+use vhost_connection::Endpoint;
 use vhost_link::Link;
 use vhost_message::{FrontendReq, VhostUserMsgHeader, VhostUserU64};
 

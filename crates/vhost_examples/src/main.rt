@@ -9,7 +9,7 @@ mod serving;
 mod socket;
 
 use std::thread;
-use vhost_endpoint::Listener;
+use vhost_connection::Listener;
 
 fn main(rt: HostRuntime) -> anyhow::Result<()> {
     serving::run(&rt)?;

@@ -4,8 +4,8 @@ use crate::device::Device;
 use std::io::{Read, Write};
 use std::net::Shutdown;
 use std::os::unix::net::UnixStream;
+use vhost_backend_req_handler::SessionCore;
 use vhost_link::UnixLink;
-use vhost_serving::SessionCore;
 
 /// The retry limit of each message.
 const BUDGET: u32 = 3;

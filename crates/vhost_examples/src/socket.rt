@@ -5,13 +5,13 @@ use std::alloc::Global;
 use std::net::Net;
 use std::rt::{Clock, Files};
 use std::sync::{Arc, Mutex, Wait};
+use vhost_backend::VhostBackend;
+use vhost_backend_req_handler::{BackendListener, BackendReqHandler};
+use vhost_connection::Listener;
 use vhost_device::VhostUserBackendReqHandler;
-use vhost_endpoint::Listener;
 use vhost_frontend::{Frontend, VhostUserFrontend};
-use vhost_frontend_types::VhostBackend;
 use vhost_link::UnixLink;
 use vhost_message::{Error, Result, VhostUserProtocolFeatures};
-use vhost_serving::{BackendListener, BackendReqHandler};
 
 /// Where the backend listens.
 pub(crate) const PATH: &str = "device.sock";
@@ -75,7 +75,7 @@ fn serve_all<D: VhostUserBackendReqHandler<Link = UnixLink>>(
 pub(crate) fn ask(
     rt: &(impl Net + Clock + Wait),
     alloc: Global,
-) -> vhost_frontend_types::Result<(u64, u64)> {
+) -> vhost_backend::Result<(u64, u64)> {
     let mut frontend = Frontend::connect(rt, alloc, PATH, RINGS, BUDGET)?;
     let features = frontend.get_features(rt)?;
     frontend.set_protocol_features(rt, VhostUserProtocolFeatures::MQ)?;

@@ -6,7 +6,7 @@ use Rattle.vhost_message.specs.Header.{Header}
 use Rattle.vhost_protocol.specs.FrontendCall.{FrontendCall, Frontend, Value}
 use Rattle.vhost_protocol.specs.declared.asked.Awaited.{Awaited}
 use Rattle.vhost_link.specs.Law.{Event}
-use Rattle.vhost_endpoint.specs.Talk.{State}
+use Rattle.vhost_connection.specs.Talk.{State}
 use Rattle.vhost_frontend_core.specs.Taking.{Takes}
 use Rattle.vhost_frontend_core.specs.Taking.Takes.{taken, stopped}
 use Rattle.vhost_frontend_core.specs.declared.asked.Sent.{Sent}

@@ -1,13 +1,13 @@
 -- A frontend's call of a session that many threads share.
 use Rattle.std.specs.Prelude.{◌≡◌, ℕ, Result, Ok, Err}
 use Rattle.vhost_message.specs.declared.error.Error as declared
-use Rattle.vhost_frontend_types.specs.declared.error.Error as device
-use Rattle.vhost_frontend_types.specs.declared.error.Error.TheVariants.{VhostUserProtocol}
+use Rattle.vhost_backend.specs.declared.error.Error as device
+use Rattle.vhost_backend.specs.declared.error.Error.TheVariants.{VhostUserProtocol}
 use Rattle.vhost_protocol.specs.FrontendCall.{FrontendCall, Value, new_frontend}
 use Rattle.vhost_protocol.specs.declared.asked.Awaited.TheVariants.{Nobody}
 use Rattle.vhost_protocol.specs.declared.profile.Profile.{Profile}
 use Rattle.vhost_link.specs.Law.{Event}
-use Rattle.vhost_endpoint.specs.State.{fresh}
+use Rattle.vhost_connection.specs.State.{fresh}
 use Rattle.vhost_frontend_core.specs.Frontend.{awaits, endpoint_of, session_of}
 use Rattle.vhost_frontend_core.specs.declared.internal.FrontendInternal.{FrontendInternal}
 use Rattle.vhost_frontend.specs.Whole.{Whole, WholeWithRoom}

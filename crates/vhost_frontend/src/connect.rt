@@ -1,7 +1,7 @@
 //! Connecting to a backend over a Unix socket.
 
 ghost use Rattle.std.specs.Prelude.{IfErr};
-ghost use Rattle.vhost_endpoint.specs.Sockets.{IsConnectError};
+ghost use Rattle.vhost_connection.specs.Sockets.{IsConnectError};
 
 use crate::frontend::Frontend;
 use std::alloc::Global;

@@ -2,6 +2,7 @@
 
 ghost use Rattle.std.specs.Prelude.{◌≡◌, IfErr, Some};
 ghost use Rattle.vhost_message.specs.FlagBits.{config_bits};
+ghost use Rattle.vhost_message.specs.HeardReq.{heard};
 ghost use Rattle.vhost_message.specs.Transfer.{direction_number, phase_number};
 ghost use Rattle.vhost_message.specs.declared.error.Error.TheVariants.{OutOfMemory};
 ghost use Rattle.vhost_protocol.specs.FrontendCall as call;
@@ -13,10 +14,8 @@ use crate::held::Held;
 use crate::traits::VhostUserFrontend;
 use std::alloc::{AllocError, Global};
 use std::sync::{Arc, Mutex, Wait};
+use vhost_backend::{Result, VhostBackend, VhostUserDirtyLogRegion, VhostUserMemoryRegionInfo};
 use vhost_frontend_core::{Call, Profile, Regions};
-use vhost_frontend_types::{
-    Result, VhostBackend, VhostUserDirtyLogRegion, VhostUserMemoryRegionInfo,
-};
 use vhost_link::Link;
 use vhost_message::{
     Error, FrontendReq, VhostTransferStateDirection, VhostTransferStatePhase, VhostUserConfig,
@@ -355,9 +354,9 @@ impl<L: Link> VhostUserFrontend for Frontend<L> {
     }
 
     fn postcopy_ack_mem_regions(&mut self, rt: &impl Wait, code: FrontendReq) -> Result<()>
-        ensures { Turn L.event (Whole L.event (call.PostcopyAckMemRegions code) (λ _. call.Nothing)) result }
+        ensures { Turn L.event (Whole L.event (call.PostcopyAckMemRegions (heard code)) (λ _. call.Nothing)) result }
     {
-        self.done(rt, &Call::PostcopyAckMemRegions(code))
+        self.done(rt, &Call::PostcopyAckMemRegions(code.into()))
     }
 
     fn set_mtu(&mut self, rt: &impl Wait, mtu: u16) -> Result<()>

@@ -13,4 +13,4 @@ pub use frontend::Frontend;
 pub use memory_context::VhostUserMemoryContext;
 pub use quiet::Quiet;
 pub use traits::VhostUserFrontend;
-pub use vhost_frontend_core::{Answer, Call};
+pub use vhost_frontend_core::{Answer, Call, FrontendInternal, Sent};

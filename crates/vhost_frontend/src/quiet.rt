@@ -2,7 +2,7 @@
 
 ghost use Rattle.std.specs.Prelude.{◌≡◌, IfOk, IfErr};
 ghost use Rattle.vhost_message.specs.declared.error.Error.TheVariants.{OutOfMemory};
-ghost use Rattle.vhost_endpoint.specs.State.{fresh};
+ghost use Rattle.vhost_connection.specs.State.{fresh};
 ghost use Rattle.vhost_protocol.specs.FrontendCall as value;
 ghost use Rattle.vhost_protocol.specs.FrontendCall.{new_frontend};
 ghost use Rattle.vhost_protocol.specs.declared.asked.Awaited.TheVariants.{Nobody};
@@ -19,6 +19,8 @@ use vhost_message::{
     Error, Result, VhostUserConfig, VhostUserHeaderFlag, VhostUserInflight,
     VhostUserProtocolFeatures, VhostUserShMemConfig,
 };
+
+mod calls;
 
 /// A frontend's session that awaits nothing: whoever finds it between two calls finds no answer to another's request on the
 /// way. Each call is whole: it sends the request, and receives the answer.

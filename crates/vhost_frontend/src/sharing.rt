@@ -10,8 +10,8 @@ ghost use Rattle.vhost_frontend.specs.Whole.{Whole, WholeWithRoom};
 
 use crate::frontend::Frontend;
 use std::sync::Wait;
+use vhost_backend::Result;
 use vhost_frontend_core::Call;
-use vhost_frontend_types::Result;
 use vhost_link::Link;
 use vhost_message::{
     VhostUserConfig, VhostUserInflight, VhostUserProtocolFeatures, VhostUserShMemConfig,

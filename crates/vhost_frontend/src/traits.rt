@@ -1,7 +1,7 @@
 //! What a VMM asks of a vhost-user backend beside the calls of any vhost backend.
 
 use std::sync::Wait;
-use vhost_frontend_types::{Result, VhostBackend, VhostUserMemoryRegionInfo};
+use vhost_backend::{Result, VhostBackend, VhostUserMemoryRegionInfo};
 use vhost_message::{
     FrontendReq, VhostTransferStateDirection, VhostTransferStatePhase, VhostUserConfig,
     VhostUserConfigFlags, VhostUserInflight, VhostUserProtocolFeatures, VhostUserShMemConfig,

@@ -8,7 +8,7 @@ use Rattle.vhost_protocol.specs.declared.asked.Awaited.{Awaited}
 use Rattle.vhost_link.specs.Law.{Event}
 use Rattle.vhost_frontend_core.specs.Asking.{Asks, AsksWithRoom, roomy, no_room}
 use Rattle.vhost_frontend_core.specs.Halves.{makes_room, AsksHalf, AsksHalfWithRoom, AsksAny}
-use Rattle.vhost_endpoint.specs.Talk.{State}
+use Rattle.vhost_connection.specs.Talk.{State}
 use Rattle.vhost_frontend_core.specs.Frontend.{session_of}
 use Rattle.vhost_frontend_core.specs.Kept.{IsKeptFor}
 use Rattle.vhost_frontend_core.specs.Plan.{IsRecord}

@@ -2,7 +2,7 @@
 use Rattle.std.proofs.Common.{◌≡◌, ℕ, Bool, false, List, Result, Ok, Err, refl, sym, ap, subst}
 use Rattle.std.specs.Prelude.{⊤, IsErrAnd, if◌then◌else◌}
 use Rattle.vhost_message.specs.declared.error.Error as declared
-use Rattle.vhost_message.specs.declared.frontend_req.FrontendReq.{FrontendReq}
+use Rattle.vhost_message.specs.declared.heard_req.HeardReq.{HeardReq}
 use Rattle.vhost_message.specs.Bits.{has_bit}
 use Rattle.vhost_protocol.specs.Error.{Error, seen}
 use Rattle.vhost_protocol.specs.FrontendCall.{Frontend}
@@ -10,9 +10,9 @@ use Rattle.vhost_protocol.specs.Ask.{Asked, Sends, ◌>>◌, needs_reply, messag
 use Rattle.vhost_protocol.specs.declared.asked.Awaited.{Awaited}
 use Rattle.vhost_protocol.specs.Written.{Payload, Written}
 use Rattle.vhost_link.specs.Law.{Event}
-use Rattle.vhost_endpoint.specs.Talk.{State}
+use Rattle.vhost_connection.specs.Talk.{State}
 use Rattle.vhost_frontend_core.specs.Asking as asking
-use Rattle.vhost_endpoint.specs.Asking.{request_with}
+use Rattle.vhost_connection.specs.Asking.{request_with}
 use Rattle.vhost_frontend_core.specs.Asking.{Asks, AsksWithRoom, Tries}
 use Rattle.vhost_frontend_core.specs.declared.asked.Kept.{Kept}
 use Rattle.vhost_frontend_core.specs.declared.asked.Sent.{Sent}
@@ -37,7 +37,7 @@ module _ {L H : Type 0} {event : L → Event H → L → Type 0} where
       subst (λ (x : Asked H). AsksWithRoom event x old f before result new f' after) (sym (ap (λ (x : Result ⊤ Error). x >> next) is)) p
 
   -- the message was tried, and the session stays
-  pub tried : {w : Written FrontendReq H} {asked : Awaited} {old new : State L H} {f f' : Frontend} {before after : Awaited} {result : Result Sent declared.Error}
+  pub tried : {w : Written HeardReq H} {asked : Awaited} {old new : State L H} {f f' : Frontend} {before after : Awaited} {result : Result Sent declared.Error}
       → f' ≡ f → Tries event w asked old before result new after → Asks event (Sends w asked f) old f before result new f' after
   tried {w} {asked} {old} {new} {f} {f'} {before} {after} {result} same p = subst (λ (x : Frontend). Asks event (Sends w asked f) old f before result new x after) (sym same) (go p)
     where
@@ -46,24 +46,24 @@ module _ {L H : Type 0} {event : L → Event H → L → Type 0} where
       go (asking.broke x) = asking.fails refl x
 
   -- what is awaited, by another name
-  pub tries_as : {w : Written FrontendReq H} {asked other : Awaited} {old new : State L H} {before after : Awaited} {result : Result Sent declared.Error}
+  pub tries_as : {w : Written HeardReq H} {asked other : Awaited} {old new : State L H} {before after : Awaited} {result : Result Sent declared.Error}
       → asked ≡ other → Tries event w asked old before result new after → Tries event w other old before result new after
   tries_as {w} {old = old} {new} {before} {after} {result} e p = subst (λ (x : Awaited). Tries event w x old before result new after) e p
 
   -- the message, by another name
-  pub written-as : {w other : Written FrontendReq H} {asked : Awaited} {old new : State L H} {before after : Awaited} {result : Result Sent declared.Error} → w ≡ other
+  pub written-as : {w other : Written HeardReq H} {asked : Awaited} {old new : State L H} {before after : Awaited} {result : Result Sent declared.Error} → w ≡ other
       → Tries event w asked old before result new after → Tries event other asked old before result new after
-  written-as {asked = asked} {old} {new} {before} {after} {result} e p = subst (λ (x : Written FrontendReq H). Tries event x asked old before result new after) e p
+  written-as {asked = asked} {old} {new} {before} {after} {result} e p = subst (λ (x : Written HeardReq H). Tries event x asked old before result new after) e p
 
   -- the session changes once the message went out
-  pub went : {w : Written FrontendReq H} {asked other : Awaited} {old new : State L H} {f f' : Frontend} {before after : Awaited} {sent : Sent}
+  pub went : {w : Written HeardReq H} {asked other : Awaited} {old new : State L H} {f f' : Frontend} {before after : Awaited} {sent : Sent}
       → asked ≡ other → Tries event w asked old before (Ok sent) new after → Asks event (Sends w other f') old f before (Ok sent) new f' after
   went {w} {other = other} {old} {new} {f} {f'} {before} {after} {sent} e p = go (tries_as e p)
     where
       go : {new : State L H} {after : Awaited} → Tries event w other old before (Ok sent) new after → Asks event (Sends w other f') old f before (Ok sent) new f' after
       go (asking.whole g) = asking.goes refl g
 
-  pub stayed : {w : Written FrontendReq H} {asked other : Awaited} {old new : State L H} {f f' g : Frontend} {before after : Awaited} {error : declared.Error}
+  pub stayed : {w : Written HeardReq H} {asked other : Awaited} {old new : State L H} {f f' g : Frontend} {before after : Awaited} {error : declared.Error}
       → asked ≡ other → g ≡ f → Tries event w asked old before (Err error) new after → Asks event (Sends w other f') old f before (Err error) new g after
   stayed {w} {other = other} {old} {new} {f} {f'} {before = before} {after} {error} e same p = subst (λ (x : Frontend). Asks event (Sends w other f') old f before (Err error) new x after) (sym same) (go (tries_as e p))
     where
@@ -71,14 +71,14 @@ module _ {L H : Type 0} {event : L → Event H → L → Type 0} where
       go (asking.broke x) = asking.fails refl x
 
   -- what is awaited is an acknowledgement, or nothing
-  pub tried_acked : {w : Written FrontendReq H} {asked other : Awaited} {old new : State L H} {f f' : Frontend} {before after : Awaited} {result : Result Sent declared.Error}
+  pub tried_acked : {w : Written HeardReq H} {asked other : Awaited} {old new : State L H} {f f' : Frontend} {before after : Awaited} {result : Result Sent declared.Error}
       → asked ≡ other → f' ≡ f → Tries event w asked old before result new after → Asks event (Sends w other f) old f before result new f' after
   tried_acked e same p = tried same (tries_as e p)
 
   -- the message by another name
-  pub tried-as : {w other : Written FrontendReq H} {asked : Awaited} {old new : State L H} {f f' : Frontend} {before after : Awaited} {result : Result Sent declared.Error}
+  pub tried-as : {w other : Written HeardReq H} {asked : Awaited} {old new : State L H} {f f' : Frontend} {before after : Awaited} {result : Result Sent declared.Error}
       → w ≡ other → f' ≡ f → Tries event w asked old before result new after → Asks event (Sends other asked f) old f before result new f' after
-  tried-as {asked = asked} {old} {new} {before = before} {after} {result} e same p = tried same (subst (λ (x : Written FrontendReq H). Tries event x asked old before result new after) e p)
+  tried-as {asked = asked} {old} {new} {before = before} {after} {result} e same p = tried same (subst (λ (x : Written HeardReq H). Tries event x asked old before result new after) e p)
 
   -- the second of two messages
   pub else_as : {holds : Bool} (yes_asked : Asked H) {no_asked : Asked H} {old new : State L H} {f f' : Frontend} {before after : Awaited} {result : Result Sent declared.Error} → holds ≡ false
@@ -99,9 +99,9 @@ module _ {L H : Type 0} {event : L → Event H → L → Type 0} where
   keeping kept (asking.goes e g) = asking.goes e (record { retries = g.retries; serves = g.serves; header = g.header; awaits = g.awaits; list = g.list })
 
 -- a request with the session's flags
-pub message_is : {H : Type 0} (flags : ℕ) (f : Frontend) (r : FrontendReq) (p : Payload) (hs : List H) → has_bit flags 2 ≡ has_bit f.header_flags 2 → has_bit flags 3 ≡ needs_reply f → request_with flags r p hs ≡ message f r p hs
+pub message_is : {H : Type 0} (flags : ℕ) (f : Frontend) (r : HeardReq) (p : Payload) (hs : List H) → has_bit flags 2 ≡ has_bit f.header_flags 2 → has_bit flags 3 ≡ needs_reply f → request_with flags r p hs ≡ message f r p hs
 message_is flags f r p hs reply need j = record { request = r; reply = reply j; need_reply = need j; payload = p; handles = hs }
 
 -- a request without NEED_REPLY
-pub unacknowledged_is : {H : Type 0} (flags : ℕ) (f : Frontend) (r : FrontendReq) (p : Payload) (hs : List H) → has_bit flags 2 ≡ has_bit f.header_flags 2 → has_bit flags 3 ≡ false → request_with flags r p hs ≡ unacknowledged f r p hs
+pub unacknowledged_is : {H : Type 0} (flags : ℕ) (f : Frontend) (r : HeardReq) (p : Payload) (hs : List H) → has_bit flags 2 ≡ has_bit f.header_flags 2 → has_bit flags 3 ≡ false → request_with flags r p hs ≡ unacknowledged f r p hs
 unacknowledged_is flags f r p hs reply need = rw (reply, need) refl

@@ -1,7 +1,7 @@
 -- Each call awaits what it may await.
 use Rattle.std.proofs.Common.{◌≡◌, Bool, true, false, cond, ◌⊎◌, Option, Some, None, Result, Ok, Err, refl, sym, subst, inl, inr}
 use Rattle.vhost_message.specs.declared.error.Error as declared
-use Rattle.vhost_message.specs.declared.frontend_req.FrontendReq.{FrontendReq}
+use Rattle.vhost_message.specs.declared.heard_req.HeardReq.{HeardReq}
 use Rattle.vhost_protocol.specs.Error.{Error}
 use Rattle.vhost_protocol.specs.FrontendCall.{FrontendCall, Frontend, SetLogBase, GetFeatures, GetProtocolFeatures, GetQueueNum, GetVringBase, GetSharedObject, GetInflightFd, GetMaxMemSlots, GetShmemConfig, SetDeviceStateFd, CheckDeviceState, PostcopyAdvise}
 use Rattle.vhost_protocol.specs.Written.{Written}
@@ -11,7 +11,7 @@ use Rattle.vhost_protocol.specs.declared.asked.Awaited.TheVariants.{Ack, Nobody,
 use Rattle.vhost_protocol.specs.declared.asked.Shape.{Shape}
 use Rattle.vhost_protocol.specs.declared.asked.Shape.TheVariants as shape
 use Rattle.vhost_link.specs.Law.{Event}
-use Rattle.vhost_endpoint.specs.Talk.{State}
+use Rattle.vhost_connection.specs.Talk.{State}
 use Rattle.vhost_frontend_core.specs.Asking as asking
 use Rattle.vhost_frontend_core.specs.Asking.{Asks, AsksWithRoom}
 use Rattle.vhost_frontend_core.specs.Taking.{IsAck}
@@ -61,7 +61,7 @@ allowed f (SetLogBase base (Some r)) = search allowing
 allowed f _ = search allowing
 
 -- a call that was sent awaits what it may
-pub awaits-allowed : {H : Type 0} (f : Frontend) (call : FrontendCall H) (w : Written FrontendReq H) (a : Awaited) (g : Frontend) → ask f call ≡ Sends w a g → MayAwait call a
+pub awaits-allowed : {H : Type 0} (f : Frontend) (call : FrontendCall H) (w : Written HeardReq H) (a : Awaited) (g : Frontend) → ask f call ≡ Sends w a g → MayAwait call a
 awaits-allowed f call w a g is = subst (λ (x : Asked _). AwaitsAllowed call x) is (allowed f call)
 
 -- the shape of the reply, where a call always has one
@@ -82,17 +82,7 @@ replies _ = None
 -- its reply is awaited
 pub awaits-reply : {H : Type 0} (call : FrontendCall H) (a : Awaited) (s : Shape) → replies call ≡ Some s → MayAwait call a → a ≡ Reply s
 awaits-reply GetFeatures a s e may = cc
-awaits-reply GetProtocolFeatures a s e may = cc
-awaits-reply GetQueueNum a s e may = cc
-awaits-reply (GetVringBase i) a s e may = cc
-awaits-reply (GetSharedObject name) a s e may = cc
-awaits-reply (GetInflightFd area) a s e may = cc
-awaits-reply GetMaxMemSlots a s e may = cc
-awaits-reply GetShmemConfig a s e may = cc
-awaits-reply (SetDeviceStateFd t h) a s e may = cc
-awaits-reply CheckDeviceState a s e may = cc
-awaits-reply PostcopyAdvise a s e may = cc
-awaits-reply _ a s e may = cc e
+awaits-reply _ a s e may = cc
 
 module _ {L H : Type 0} {event : L → Event H → L → Type 0} where
   -- what was sent is what is awaited

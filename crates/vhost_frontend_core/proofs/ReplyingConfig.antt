@@ -5,10 +5,10 @@ use Rattle.std.specs.Global.{Global}
 use Rattle.std.proofs.lemmas.List.{drop_all, drop_at, length-append, length-drop, append-nil}
 use Rattle.vhost_message.specs.declared.error.Error as declared
 use Rattle.vhost_message.specs.declared.error.Error.TheVariants as code
-use Rattle.vhost_message.specs.declared.frontend_req.FrontendReq.{FrontendReq}
+use Rattle.vhost_message.specs.declared.heard_req.HeardReq.{HeardReq}
 use Rattle.vhost_message.specs.declared.header.VhostUserMsgHeader.{VhostUserMsgHeader}
 use Rattle.vhost_message.specs.declared.records.config.VhostUserConfig.{VhostUserConfig}
-use Rattle.vhost_message.specs.FrontendReq.{request_of}
+use Rattle.vhost_message.specs.HeardReq.{request_of}
 use Rattle.vhost_message.specs.Header.{Header, header_of, is_valid_header, is_reply_for}
 use Rattle.vhost_message.specs.MsgHeader.{fields_of, of_fields}
 use Rattle.vhost_message.specs.Records.{config_of}
@@ -25,22 +25,22 @@ use Rattle.vhost_protocol.proofs.ReplyLaws.{bare-rest}
 use Rattle.vhost_protocol.proofs.SplitLaws.{le-shorter, lt-shorter, one-more}
 use Rattle.vhost_link.specs.Law.{Event}
 use Rattle.vhost_link.proofs.Cells.{length-bytes}
-use Rattle.vhost_endpoint.specs.Pass.{receives}
-use Rattle.vhost_endpoint.specs.Talk.{State, IfSound}
-use Rattle.vhost_endpoint.specs.Came.{Came, Alone}
-use Rattle.vhost_endpoint.specs.Calls.{IsNoMessage, is_sound}
-use Rattle.vhost_endpoint.specs.Calls.IsNoMessage.{too_few, not_valid}
-use Rattle.vhost_endpoint.specs.Bare.{is_bare, ReadsOrBare}
-use Rattle.vhost_endpoint.specs.Hearing.{HearsReply, broken_on}
-use Rattle.vhost_endpoint.specs.Whole.ReadsNone.{ended, refused, short}
-use Rattle.vhost_endpoint.proofs.Came.{came-all, came-ended}
-use Rattle.vhost_endpoint.proofs.Bare.{bare-front}
-use Rattle.vhost_endpoint.proofs.Failing.{trouble-breaks}
+use Rattle.vhost_connection.specs.Pass.{receives}
+use Rattle.vhost_connection.specs.Talk.{State, IfSound}
+use Rattle.vhost_connection.specs.Came.{Came, Alone}
+use Rattle.vhost_connection.specs.Calls.{IsNoMessage, is_sound}
+use Rattle.vhost_connection.specs.Calls.IsNoMessage.{too_few, not_valid}
+use Rattle.vhost_connection.specs.Bare.{is_bare, ReadsOrBare}
+use Rattle.vhost_connection.specs.Hearing.{HearsReply, broken_on}
+use Rattle.vhost_connection.specs.Whole.ReadsNone.{ended, refused, short}
+use Rattle.vhost_connection.proofs.Came.{came-all, came-ended}
+use Rattle.vhost_connection.proofs.Bare.{bare-front}
+use Rattle.vhost_connection.proofs.Failing.{trouble-breaks}
 use Rattle.vhost_frontend_core.specs.Taking.{reply_cut}
 use Rattle.vhost_frontend_core.specs.TakingConfig.{is_reply_of, ReadsBytes, RecvsConfig}
 use Rattle.vhost_frontend_core.specs.TakingConfig.RecvsConfig.{came, unfit, crowded, bare, none, failed}
-use Rattle.vhost_endpoint.proofs.Handed.{hands-none, hands-some}
-use Rattle.vhost_endpoint.proofs.Replies.{known-is, reply_in, outcome, splits, is-whole, is-invalid}
+use Rattle.vhost_connection.proofs.Handed.{hands-none, hands-some}
+use Rattle.vhost_connection.proofs.Replies.{known-is, reply_in, outcome, splits, is-whole, is-invalid}
 
 abbrev valid : List ℕ → Bool
 valid bs = is_valid_config (config_of bs)
@@ -115,17 +115,17 @@ module _ {L H : Type 0} (event : L → Event H → L → Type 0) (sent : Header)
   none-read new after e ((cs, room, inr f), no_bare) = short (24 + length before) cs f
   none-read new after e ((cs, room, inl (m, bad)), no_bare) = go e bad
     where
-      go : (y : declared.Error) → IsNoMessage 24 (is_sound (λ bs. of_fields (header_of bs)) (λ (h : VhostUserMsgHeader FrontendReq). is_some (request_of (fields_of h).code) && is_valid_header (fields_of h)) 12 config_of is_valid_config) cs y
+      go : (y : declared.Error) → IsNoMessage 24 (is_sound (λ bs. of_fields (header_of bs)) (λ (h : VhostUserMsgHeader HeardReq). is_some (request_of (fields_of h).code) && is_valid_header (fields_of h)) 12 config_of is_valid_config) cs y
           → ReadsBytes event Vhost sent old before (Err y) after new
       go y (too_few few) = ended (record { hears = record { cells = cs; ended = true; retries = m.retries; serves = came-ended m (omega (arith, few)); splits = config-short sent (length before) cs few }; list = λ _. m.listed }) m.listed
       go y (not_valid whole wrong) =
           refused (config-came new cs (Err InvalidMessage) m (λ _. refl) whole (is-invalid is_known 12 (length before) valid cs (ap (λ b. b && valid (take 12 (drop 12 (bytes cs)))) (known-is request_of (header_of (take 12 (bytes cs)))) ∙ wrong)) (no_bare whole)) m.listed
 
-  reply-read : (new : State L H) (after : List ℕ) (h : VhostUserMsgHeader FrontendReq) (part : VhostUserConfig) (n : ℕ) (hs : Option (Vec H Global)) → ReadsOrBare event request_of sent old before (Ok (Some (h, part, n, hs))) after new
+  reply-read : (new : State L H) (after : List ℕ) (h : VhostUserMsgHeader HeardReq) (part : VhostUserConfig) (n : ℕ) (hs : Option (Vec H Global)) → ReadsOrBare event request_of sent old before (Ok (Some (h, part, n, hs))) after new
       → ReadsBytes event Vhost sent old before (Ok (Some (h, part, n, hs))) after new
   unfolding reply_in
   reply-read new after h part n hs ((cs, room, (m, (count, (is_h, ok, is_part, ok_part, over)))), no_bare) =
-      let head = ap (λ (x : VhostUserMsgHeader FrontendReq). fields_of x) is_h in
+      let head = ap (λ (x : VhostUserMsgHeader HeardReq). fields_of x) is_h in
       let len : length (drop 24 (bytes cs)) ≡ n = length-drop 24 (bytes cs) ∙ omega (arith, length-bytes cs, count) in (
         reply_in is_known 12 (length before) valid cs,
         config-came new cs (Ok (reply_in is_known 12 (length before) valid cs)) m (λ none_came. ap not none_came) (omega (arith, count)) (is-whole is_known 12 (length before) valid cs (known-is request_of (header_of (take 12 (bytes cs))) ∙ ap (λ (x : Header). is_some (request_of x.code) && is_valid_header x) (sym head) ∙ ok) (ap is_valid_config (sym is_part) ∙ ok_part)) no_bare,
@@ -137,7 +137,7 @@ module _ {L H : Type 0} (event : L → Event H → L → Type 0) (sent : Header)
       )
 
   -- a reply that may be bare is one that may have none
-  pub bytes-or-bare : (new : State L H) (after : List ℕ) (result : Result (Option (VhostUserMsgHeader FrontendReq × VhostUserConfig × ℕ × Option (Vec H Global))) declared.Error)
+  pub bytes-or-bare : (new : State L H) (after : List ℕ) (result : Result (Option (VhostUserMsgHeader HeardReq × VhostUserConfig × ℕ × Option (Vec H Global))) declared.Error)
       → ReadsOrBare event request_of sent old before result after new → ReadsBytes event Vhost sent old before result after new
   bytes-or-bare new after (Ok None) (cs, m, len, is, room) =
       record { hears = record { cells = cs; ended = false; retries = m.retries; serves = came-all m (omega (arith, len)); splits = λ rest. config-bare sent (length before) cs rest len is }; list = λ _. m.listed }
@@ -158,10 +158,10 @@ module _ {L H : Type 0} (event : L → Event H → L → Type 0) (sent : Header)
     config-fails new after e (short len cs f) = failed (trouble-breaks event old IfSound false (receives (items cs) f.retries) e new f.trouble refl (lit≤ tt))
 
     -- the test of a reply, as the code makes it
-    abbrev pub whole_test : VhostUserMsgHeader FrontendReq → ℕ → Bool
+    abbrev pub whole_test : VhostUserMsgHeader HeardReq → ℕ → Bool
     whole_test h n = is_reply_for request_of (fields_of h) sent && ((fields_of h).size == 12 + length before && n == length before)
 
-    module _ (new : State L H) (after : List ℕ) (h : VhostUserMsgHeader FrontendReq) (part : VhostUserConfig) (n : ℕ) (hs : Option (Vec H Global)) (x : ReadsBytes event profile sent old before (Ok (Some (h, part, n, hs))) after new) where
+    module _ (new : State L H) (after : List ℕ) (h : VhostUserMsgHeader HeardReq) (part : VhostUserConfig) (n : ℕ) (hs : Option (Vec H Global)) (x : ReadsBytes event profile sent old before (Ok (Some (h, part, n, hs))) after new) where
       test-is : is_reply_of sent (length before) x.0 ≡ whole_test h n
       test-is j = is_reply_for request_of (x.2 j) sent && ((x.2 j).size == 12 + length before && sym x.4 j == length before)
 

@@ -21,19 +21,19 @@ use Rattle.vhost_protocol.specs.Served.{Acknowledged, Replied}
 use Rattle.vhost_protocol.specs.ReplySplit.{Received}
 use Rattle.vhost_protocol.specs.Take.{is_sized, understood, payload_of, take, take_reply}
 use Rattle.vhost_link.specs.Law.{Event}
-use Rattle.vhost_endpoint.specs.Talk.{State}
-use Rattle.vhost_endpoint.specs.Calls.{HandsOver}
-use Rattle.vhost_endpoint.specs.Hearing.{HearsReply}
+use Rattle.vhost_connection.specs.Talk.{State}
+use Rattle.vhost_connection.specs.Calls.{HandsOver}
+use Rattle.vhost_connection.specs.Hearing.{HearsReply}
 use Rattle.vhost_frontend_core.specs.Taking.{reply_cut, valued, one_unless, Comes, Missing, Awaits, AwaitsAlone, Acks, IsAck, Reads, Takes}
-use Rattle.vhost_endpoint.specs.Asking.Missing.{unfit, none, failed}
+use Rattle.vhost_connection.specs.Asking.Missing.{unfit, none, failed}
 use Rattle.vhost_frontend_core.specs.Taking.Awaits.{is_reply, is_request}
 use Rattle.vhost_frontend_core.specs.Taking.AwaitsAlone.{alone, crowded, absent}
 use Rattle.vhost_frontend_core.specs.Taking.RecvsAck.{agreed, refused, crowded_ack, unacked}
 use Rattle.vhost_frontend_core.specs.Taking.Acks.{unasked, asked_for}
 use Rattle.vhost_frontend_core.specs.Taking.Reads.{unread, read}
 use Rattle.vhost_frontend_core.specs.Taking.Takes.{taken, stopped}
-use Rattle.vhost_endpoint.proofs.Replies.{replies-by}
-use Rattle.vhost_endpoint.proofs.Handed.{hands-none, hands-some, nonzero}
+use Rattle.vhost_connection.proofs.Replies.{replies-by}
+use Rattle.vhost_connection.proofs.Handed.{hands-none, hands-some, nonzero}
 
 -- an answer that was taken, in another form
 module _ {L H A B : Type 0} {event : L → Event H → L → Type 0} {call : FrontendCall H} {value : A → Value H} {other : B → Value H} {asked : Awaited} {sent : Header} {old : State L H} {f : Frontend} where

@@ -18,15 +18,15 @@ use Rattle.vhost_protocol.specs.ReplySplit.{Received}
 use Rattle.vhost_protocol.specs.Stream.{has_some}
 use Rattle.vhost_protocol.specs.Take.{config_cut, understood_config, take, answers}
 use Rattle.vhost_link.specs.Law.{Event}
-use Rattle.vhost_endpoint.specs.Talk.{State}
-use Rattle.vhost_endpoint.specs.Hearing.{HearsReply}
+use Rattle.vhost_connection.specs.Talk.{State}
+use Rattle.vhost_connection.specs.Hearing.{HearsReply}
 use Rattle.vhost_frontend_core.specs.Taking.{Reads, Takes}
 use Rattle.vhost_frontend_core.specs.Taking.Reads.{unread, read}
 use Rattle.vhost_frontend_core.specs.Taking.Takes.{taken, stopped}
 use Rattle.vhost_frontend_core.specs.TakingConfig.{is_part, is_reply_of, is_asked, RecvsConfig}
 use Rattle.vhost_frontend_core.specs.TakingConfig.RecvsConfig.{came, unfit, crowded, bare, none, failed}
-use Rattle.vhost_endpoint.proofs.Handed.{nonzero}
-use Rattle.vhost_endpoint.proofs.Replies.{replies-by}
+use Rattle.vhost_connection.proofs.Handed.{nonzero}
+use Rattle.vhost_connection.proofs.Replies.{replies-by}
 
 -- what the call answers
 abbrev pub shown : {H : Type 0} → VhostUserConfig × Vec ℕ Global → Value H

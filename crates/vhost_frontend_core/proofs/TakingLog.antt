@@ -18,10 +18,10 @@ use Rattle.vhost_protocol.specs.Served.{Replied}
 use Rattle.vhost_protocol.specs.Stream.{Cell, has_some}
 use Rattle.vhost_protocol.specs.Take.{is_known, payload_of, understood, take, take_reply}
 use Rattle.vhost_link.specs.Law.{Event}
-use Rattle.vhost_endpoint.specs.Asking.Missing.{unfit, none, failed}
-use Rattle.vhost_endpoint.specs.Hearing.{HearsReply}
-use Rattle.vhost_endpoint.specs.Talk.{State}
-use Rattle.vhost_endpoint.proofs.Replies.{replies-by}
+use Rattle.vhost_connection.specs.Asking.Missing.{unfit, none, failed}
+use Rattle.vhost_connection.specs.Hearing.{HearsReply}
+use Rattle.vhost_connection.specs.Talk.{State}
+use Rattle.vhost_connection.proofs.Replies.{replies-by}
 use Rattle.vhost_frontend_core.specs.Taking.{reply_cut, AwaitsAlone, AwaitsAny, Reads, Takes}
 use Rattle.vhost_frontend_core.specs.Taking.AwaitsAny.{any_for_reply, any, any_crowded, any_missing}
 use Rattle.vhost_frontend_core.specs.Taking.Reads.{unread, read}

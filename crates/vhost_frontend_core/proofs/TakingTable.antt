@@ -13,7 +13,7 @@ use Rattle.vhost_message.specs.Bits.{has_bit}
 use Rattle.vhost_message.specs.Header.{Header}
 use Rattle.vhost_message.specs.Records.{memory_of, regions_of}
 use Rattle.vhost_message.specs.Valid.{is_valid_memory}
-use Rattle.vhost_message.specs.FrontendReq.{request_of}
+use Rattle.vhost_message.specs.HeardReq.{request_of}
 use Rattle.vhost_protocol.specs.AnswerTable.{answered, answer, alone, only_if, are_same_ranges, bases_in}
 use Rattle.vhost_protocol.specs.Ask.{regions_in}
 use Rattle.vhost_protocol.specs.declared.asked.Awaited.TheVariants.{Reply}
@@ -26,13 +26,13 @@ use Rattle.vhost_protocol.specs.Served.{Replied}
 use Rattle.vhost_protocol.specs.Stream.{Cell, has_some}
 use Rattle.vhost_protocol.specs.Take.{is_known, understood, payload_of, take_reply}
 use Rattle.vhost_link.specs.Law.{Event}
-use Rattle.vhost_endpoint.specs.Talk.{State}
+use Rattle.vhost_connection.specs.Talk.{State}
 use Rattle.vhost_frontend_core.specs.Regions.{bases_seen}
-use Rattle.vhost_endpoint.specs.Asking.{RecvsReply}
+use Rattle.vhost_connection.specs.Asking.{RecvsReply}
 use Rattle.vhost_frontend_core.specs.Taking.{reply_cut, is_table, Comes, Missing, RecvsTable, Takes}
 use Rattle.vhost_frontend_core.specs.Taking.RecvsTable.{table, no_table, crowded_table, missing}
 use Rattle.vhost_frontend_core.specs.Taking.Takes.{taken}
-use Rattle.vhost_endpoint.proofs.Handed.{hands-none, hands-some}
+use Rattle.vhost_connection.proofs.Handed.{hands-none, hands-some}
 use Rattle.vhost_frontend_core.proofs.Taking.{reads-reply, replied, reads-missing}
 
 -- ---- three tests

@@ -2,7 +2,7 @@
 use Rattle.std.proofs.Common.{◌≡◌, ◌⊎◌, Bool, true, false, cond, inl, inr, IfErr, List, Option, Some, None, Result, Ok, Err, refl, subst}
 use Rattle.vhost_message.specs.declared.error.Error as declared
 use Rattle.vhost_message.specs.declared.error.Error.TheVariants as error
-use Rattle.vhost_message.specs.declared.frontend_req.FrontendReq.{FrontendReq}
+use Rattle.vhost_message.specs.declared.heard_req.HeardReq.{HeardReq}
 use Rattle.vhost_protocol.specs.Ask.{Asked, Refuses, Sends, ask, given, ◌>>◌, ◌>>=◌}
 use Rattle.vhost_protocol.specs.Error.{Error, OutOfMemory, seen}
 use Rattle.vhost_protocol.specs.FrontendCall.{FrontendCall, Frontend, Info, SetLogBase, SetMemTable}
@@ -12,9 +12,9 @@ use Rattle.vhost_protocol.specs.declared.asked.Awaited.{Awaited}
 use Rattle.vhost_protocol.specs.declared.asked.Awaited.TheVariants.{Ack, Nobody, Reply}
 use Rattle.vhost_protocol.specs.declared.asked.Shape.{Shape}
 use Rattle.vhost_link.specs.Law.{Event}
-use Rattle.vhost_endpoint.specs.Hearing.{Fails, was_broken, no_memory, fault}
-use Rattle.vhost_endpoint.specs.Talk.{State}
-use Rattle.vhost_endpoint.proofs.Errors.{no_memory_error}
+use Rattle.vhost_connection.specs.Hearing.{Fails, was_broken, no_memory, fault}
+use Rattle.vhost_connection.specs.Talk.{State}
+use Rattle.vhost_connection.proofs.Errors.{no_memory_error}
 use Rattle.vhost_frontend_core.specs.Asking as asking
 use Rattle.vhost_frontend_core.specs.Asking.{Asks, AsksWithRoom}
 use Rattle.vhost_frontend_core.specs.declared.asked.Sent.{Sent}
@@ -54,7 +54,7 @@ abbrev AwaitsOnly : {H : Type 0} → Bool → Asked H → Type 0
 AwaitsOnly b (Sends w (Reply s) g) = b ≡ true
 AwaitsOnly b _ = Unit {0}
 
-acked-only : (H : Type 0) (b on : Bool) (w : Written FrontendReq H) (g : Frontend) → AwaitsOnly b (Sends w (cond on Ack Nobody) g)
+acked-only : (H : Type 0) (b on : Bool) (w : Written HeardReq H) (g : Frontend) → AwaitsOnly b (Sends w (cond on Ack Nobody) g)
 acked-only H b true w g = tt
 acked-only H b false w g = tt
 
@@ -73,7 +73,7 @@ listening-only H false reply other h = h
 listens : {H : Type 0} (f : Frontend) (infos : List (Info H)) → AwaitsOnly (is_listen f.postcopy) (ask f (SetMemTable infos))
 listens f infos = search (tested-only, listening-only, acked-only)
 
-pub table-listens : {H : Type 0} (f : Frontend) (infos : List (Info H)) (w : Written FrontendReq H) (s : Shape) (g : Frontend) → ask f (SetMemTable infos) ≡ Sends w (Reply s) g → is_listen f.postcopy ≡ true
+pub table-listens : {H : Type 0} (f : Frontend) (infos : List (Info H)) (w : Written HeardReq H) (s : Shape) (g : Frontend) → ask f (SetMemTable infos) ≡ Sends w (Reply s) g → is_listen f.postcopy ≡ true
 table-listens f infos w s g is =
     subst (λ (x : Asked _). AwaitsOnly (is_listen f.postcopy) x) is (listens f infos)
 

@@ -1,13 +1,13 @@
 -- A frontend's side of a connection, as contracts see it.
 use Rattle.std.specs.Prelude.{◌≡◌, None}
-use Rattle.vhost_message.specs.declared.frontend_req.FrontendReq.{FrontendReq}
+use Rattle.vhost_message.specs.declared.heard_req.HeardReq.{HeardReq}
 use Rattle.vhost_message.specs.declared.header.VhostUserMsgHeader.{VhostUserMsgHeader}
 use Rattle.vhost_protocol.specs.FrontendCall.{Frontend}
 use Rattle.vhost_protocol.specs.declared.asked.Awaited.{Awaited}
 use Rattle.vhost_protocol.specs.declared.asked.Awaited.TheVariants.{Nobody}
-use Rattle.vhost_endpoint.specs.declared.endpoint.Endpoint.{Endpoint}
-use Rattle.vhost_endpoint.specs.Talk.{State}
-use Rattle.vhost_endpoint.specs.State.{state}
+use Rattle.vhost_connection.specs.declared.endpoint.Endpoint.{Endpoint}
+use Rattle.vhost_connection.specs.Talk.{State}
+use Rattle.vhost_connection.specs.State.{state}
 use Rattle.vhost_frontend_core.specs.Session.{frontend_of}
 use Rattle.vhost_frontend_core.specs.declared.asked.Sent.{Sent}
 use Rattle.vhost_frontend_core.specs.declared.internal.FrontendInternal.{FrontendInternal}
@@ -33,5 +33,5 @@ abbrev pub IsAwaited : {L H : Type 0} → Sent → FrontendInternal L H → Type
 IsAwaited sent f = sent.awaited ≡ awaits f
 
 -- the same frontend over another endpoint
-abbrev pub with_endpoint : {L H : Type 0} → FrontendInternal L H → Endpoint (VhostUserMsgHeader FrontendReq) L H → FrontendInternal L H
+abbrev pub with_endpoint : {L H : Type 0} → FrontendInternal L H → Endpoint (VhostUserMsgHeader HeardReq) L H → FrontendInternal L H
 with_endpoint f endpoint = record f { endpoint = endpoint }

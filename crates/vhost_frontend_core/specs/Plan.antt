@@ -1,7 +1,7 @@
 -- What a call becomes, as the definitions see it.
 use Rattle.std.specs.Prelude.{List, Result, Ok, Err, ⊤}
 use Rattle.vhost_message.specs.declared.error.Error as declared
-use Rattle.vhost_message.specs.declared.frontend_req.FrontendReq.{FrontendReq}
+use Rattle.vhost_message.specs.declared.heard_req.HeardReq.{HeardReq}
 use Rattle.vhost_protocol.specs.Error.{seen}
 use Rattle.vhost_protocol.specs.Ask.{Asked, Refuses, Sends, message, unacknowledged, given_handle}
 use Rattle.vhost_protocol.specs.FrontendCall.{FrontendCall, Frontend, SetMemTable, GetConfig, SetConfig}
@@ -35,13 +35,13 @@ record_in (record_.ObjectName name) = payload.ObjectName name
 record_in (record_.DeviceState t) = payload.DeviceState t
 
 -- a message, by how it asks for its acknowledgement
-abbrev pub asking : {H : Type 0} → Asking → Frontend → FrontendReq → Payload → List H → Written FrontendReq H
+abbrev pub asking : {H : Type 0} → Asking → Frontend → HeardReq → Payload → List H → Written HeardReq H
 asking AsFlagged f r payload handles = message f r payload handles
 asking Unacknowledged f r payload handles = unacknowledged f r payload handles
 asking Turning f r payload handles = record (message f r payload handles) { need_reply = turn_needs_reply f }
 
 -- the message of a plan
-abbrev pub written : {H : Type 0} → Plan H → Written FrontendReq H
+abbrev pub written : {H : Type 0} → Plan H → Written HeardReq H
 written p = asking p.asking (frontend_of p.next) p.request (record_in p.body) (given_handle (lent p.handle))
 
 -- what is planned for a call: a refusal, or a message, what is awaited of it, and the session from then on

@@ -3,9 +3,9 @@ use Rattle.std.specs.Prelude.{ℕ, List, map, Option, Some, None, Vec}
 use Rattle.std.specs.Global.{Global}
 use Rattle.std.specs.Borrow.{Bor}
 use Rattle.vhost_protocol.specs.FrontendCall.{Info, LogRegion}
-use Rattle.vhost_frontend_types.specs.Region.{region_in}
-use Rattle.vhost_frontend_types.specs.declared.dirty_log.VhostUserDirtyLogRegion.{VhostUserDirtyLogRegion}
-use Rattle.vhost_frontend_types.specs.declared.region.VhostUserMemoryRegionInfo.{VhostUserMemoryRegionInfo}
+use Rattle.vhost_backend.specs.Region.{region_in}
+use Rattle.vhost_backend.specs.declared.dirty_log.VhostUserDirtyLogRegion.{VhostUserDirtyLogRegion}
+use Rattle.vhost_backend.specs.declared.region.VhostUserMemoryRegionInfo.{VhostUserMemoryRegionInfo}
 use Rattle.vhost_frontend_core.specs.declared.regions.RegionInfo.{RegionInfo}
 use Rattle.vhost_frontend_core.specs.declared.regions.Regions as code
 use Rattle.vhost_frontend_core.specs.declared.regions.Regions.TheVariants as regions

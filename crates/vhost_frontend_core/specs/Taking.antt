@@ -5,7 +5,7 @@ use Rattle.vhost_message.specs.declared.error.Error as declared
 use Rattle.vhost_message.specs.declared.error.Error.TheVariants as code
 use Rattle.vhost_message.specs.declared.limits.TheConstants.{MEMORY_HEAD_SIZE, MEMORY_REGION_SIZE}
 use Rattle.vhost_message.specs.Bits.{has_bit}
-use Rattle.vhost_message.specs.FrontendReq.{request_of}
+use Rattle.vhost_message.specs.HeardReq.{request_of}
 use Rattle.vhost_message.specs.Header.{Header}
 use Rattle.vhost_message.specs.Records.{u64_at, memory_of}
 use Rattle.vhost_message.specs.Valid.{is_valid_memory}
@@ -19,10 +19,10 @@ use Rattle.vhost_protocol.specs.declared.profile.Profile.{Profile}
 use Rattle.vhost_protocol.specs.ReplySplit.{Received, split_by, whole_split}
 use Rattle.vhost_protocol.specs.Take.{is_known, take}
 use Rattle.vhost_link.specs.Law.{Event}
-use Rattle.vhost_endpoint.specs.Talk.{State}
-use Rattle.vhost_endpoint.specs.Asking as asking
-use Rattle.vhost_endpoint.specs.Calls.{HandsOver}
-use Rattle.vhost_endpoint.specs.Hearing.{HearsReply, Fails}
+use Rattle.vhost_connection.specs.Talk.{State}
+use Rattle.vhost_connection.specs.Asking as asking
+use Rattle.vhost_connection.specs.Calls.{HandsOver}
+use Rattle.vhost_connection.specs.Hearing.{HearsReply, Fails}
 
 -- a reply on a stream, with a record of so many bytes and room for so much payload
 abbrev pub reply_cut : {H : Type 0} → Profile → (size : ℕ) → (List ℕ → Bool) → (room : ℕ) → List (Cell H) → Result (Received H) Error × List (Cell H)

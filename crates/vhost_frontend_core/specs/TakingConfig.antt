@@ -4,7 +4,7 @@ use Rattle.std.specs.Global.{Global}
 use Rattle.vhost_message.specs.declared.error.Error as declared
 use Rattle.vhost_message.specs.declared.error.Error.TheVariants as code
 use Rattle.vhost_message.specs.declared.records.config.VhostUserConfig.{VhostUserConfig}
-use Rattle.vhost_message.specs.declared.frontend_req.FrontendReq.{FrontendReq}
+use Rattle.vhost_message.specs.declared.heard_req.HeardReq.{HeardReq}
 use Rattle.vhost_message.specs.declared.header.VhostUserMsgHeader.{VhostUserMsgHeader}
 use Rattle.vhost_message.specs.Header.{Header}
 use Rattle.vhost_message.specs.MsgHeader.{fields_of}
@@ -15,10 +15,10 @@ use Rattle.vhost_protocol.specs.Error.{seen}
 use Rattle.vhost_protocol.specs.ReplySplit.{Received}
 use Rattle.vhost_protocol.specs.Take.{answers, config_cut}
 use Rattle.vhost_link.specs.Law.{Event}
-use Rattle.vhost_endpoint.specs.Talk.{State}
-use Rattle.vhost_endpoint.specs.Calls.{HandsOver}
-use Rattle.vhost_endpoint.specs.Hearing.{HearsReply, Fails}
-use Rattle.vhost_endpoint.specs.Whole.{ReadsNone}
+use Rattle.vhost_connection.specs.Talk.{State}
+use Rattle.vhost_connection.specs.Calls.{HandsOver}
+use Rattle.vhost_connection.specs.Hearing.{HearsReply, Fails}
+use Rattle.vhost_connection.specs.Whole.{ReadsNone}
 
 -- a reply has so many configuration bytes, as its header and its bytes say
 abbrev pub is_part : {H : Type 0} → (room : ℕ) → Received H → Bool
@@ -34,7 +34,7 @@ is_asked asked count part = part.offset == asked.offset && part.size == asked.si
 
 module _ {L H : Type 0} (event : L → Event H → L → Type 0) (profile : Profile) where
   -- A reply with configuration bytes is received, whether or not it answers the request, or one that has none.
-  abbrev pub ReadsBytes : (sent : Header) → State L H → List ℕ → Result (Option (VhostUserMsgHeader FrontendReq × VhostUserConfig × ℕ × Option (Vec H Global))) declared.Error → List ℕ → State L H → Type 0
+  abbrev pub ReadsBytes : (sent : Header) → State L H → List ℕ → Result (Option (VhostUserMsgHeader HeardReq × VhostUserConfig × ℕ × Option (Vec H Global))) declared.Error → List ℕ → State L H → Type 0
   ReadsBytes sent old before (Ok None) after new = HearsReply event (config_cut profile sent (length before)) old (Ok None) new
   ReadsBytes sent old before (Ok (Some x)) after new =
       (reply : Received H) × HearsReply event (config_cut profile sent (length before)) old (Ok (Some reply)) new × (reply.header ≡ fields_of x.0) × (x.1 ≡ config_of reply.body)

@@ -15,8 +15,8 @@ use Rattle.vhost_link.specs.declared.plain.PlainHandle.{PlainHandle}
 use Rattle.vhost_link.specs.Ends.{Ends}
 use Rattle.vhost_link.specs.Law.{Event}
 use Rattle.vhost_link.specs.Mem.{event}
-use Rattle.vhost_endpoint.specs.Talk.{State}
-use Rattle.vhost_endpoint.specs.Hearing.{Fails}
+use Rattle.vhost_connection.specs.Talk.{State}
+use Rattle.vhost_connection.specs.Hearing.{Fails}
 use Rattle.vhost_frontend_core.specs.Frontend.{endpoint_of, session_of, awaits}
 use Rattle.vhost_frontend_core.specs.Halves.{AsksHalfWithRoom, AsksAny, TakesHalf, makes_room}
 use Rattle.vhost_frontend_core.specs.Awaiting.{MayAwait}

@@ -4,7 +4,7 @@ ghost use Rattle.std.specs.Prelude.{◌≡◌, ◌≤◌, [], length, vec_capaci
 ghost use Rattle.vhost_message.specs.declared.limits.TheConstants.{MAX_MEM_REGIONS};
 
 use vhost_message::{
-    FrontendReq, VhostUserConfig, VhostUserMemoryRegion, VhostUserMsgHeader, VhostUserShMemConfig,
+    HeardReq, VhostUserConfig, VhostUserMemoryRegion, VhostUserMsgHeader, VhostUserShMemConfig,
 };
 use vhost_protocol::Awaited;
 
@@ -39,7 +39,7 @@ pub enum Kept {
 /// A request that was sent. The half of a call that sends makes it, and the half that receives uses it up.
 #[derive(Drop)]
 pub struct Sent {
-    pub(crate) request: VhostUserMsgHeader<FrontendReq>,
+    pub(crate) request: VhostUserMsgHeader<HeardReq>,
     pub(crate) awaited: Awaited,
     pub(crate) kept: Kept,
 }
@@ -47,7 +47,7 @@ pub struct Sent {
 impl Sent {
     ghost use Rattle.vhost_frontend_core.specs.declared.asked.Kept.TheVariants.{Nothing};
 
-    pub(crate) fn new(request: VhostUserMsgHeader<FrontendReq>, awaited: Awaited) -> Sent
+    pub(crate) fn new(request: VhostUserMsgHeader<HeardReq>, awaited: Awaited) -> Sent
         ensures { result ≡ record { request = request; awaited = awaited; kept = Nothing } }
     {
         Sent {
@@ -65,7 +65,7 @@ impl Sent {
     }
 
     /// The header of the request.
-    pub fn request(&self) -> &VhostUserMsgHeader<FrontendReq>
+    pub fn request(&self) -> &VhostUserMsgHeader<HeardReq>
         ensures { result.now ≡ self.now.request }
     {
         &self.request

@@ -1,9 +1,9 @@
 //! What a caller asks of a frontend, over the descriptors of any link.
 
 use crate::regions::Regions;
-use vhost_frontend_types::{VhostUserDirtyLogRegion, VhostUserMemoryRegionInfo};
+use vhost_backend::{VhostUserDirtyLogRegion, VhostUserMemoryRegionInfo};
 use vhost_message::{
-    FrontendReq, VhostTransferStateDirection, VhostTransferStatePhase, VhostUserConfigFlags,
+    HeardReq, VhostTransferStateDirection, VhostTransferStatePhase, VhostUserConfigFlags,
     VhostUserInflight, VhostUserProtocolFeatures, VhostUserSharedMsg, VringConfigData,
 };
 
@@ -152,7 +152,7 @@ pub enum Call<'a, H> {
     /// awaited.
     ///
     /// InvalidParam: it is another request.
-    PostcopyAckMemRegions(FrontendReq),
+    PostcopyAckMemRegions(HeardReq),
     /// Sets the MTU, in bytes.
     ///
     /// InactiveOperation: MTU is not accepted.

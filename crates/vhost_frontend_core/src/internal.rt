@@ -8,19 +8,20 @@ ghost use Rattle.vhost_protocol.specs.declared.asked.Awaited.TheVariants.{Nobody
 use crate::session::FrontendSession;
 use bitflags::Flags;
 use std::alloc::Global;
-use vhost_endpoint::Endpoint;
+use vhost_connection::Endpoint;
 use vhost_link::Link;
-use vhost_message::{FrontendReq, Result, VhostUserHeaderFlag, VhostUserMsgHeader};
+use vhost_message::{HeardReq, Result, VhostUserHeaderFlag, VhostUserMsgHeader};
 use vhost_protocol::{Awaited, Profile};
 
 mod asking;
 mod config;
+mod halves;
 mod plan;
 mod replies;
 mod table;
 mod taking;
 
-type Header = VhostUserMsgHeader<FrontendReq>;
+type Header = VhostUserMsgHeader<HeardReq>;
 
 /// A frontend's session over a link. Each call has a half that sends the request and a half that receives the answer.
 ///
@@ -40,10 +41,10 @@ pub struct FrontendInternal<L: Link> {
 
 impl<L: Link> FrontendInternal<L> {
     ghost use Rattle.std.specs.Borrow.{sem, Lends};
-    ghost use Rattle.vhost_endpoint.specs.State.{fresh, state};
-    ghost use Rattle.vhost_endpoint.specs.contracts.endpoint.Endpoint.{the_row as endpoint_row};
+    ghost use Rattle.vhost_connection.specs.State.{fresh, state};
+    ghost use Rattle.vhost_connection.specs.contracts.endpoint.Endpoint.{the_row as endpoint_row};
     ghost use Rattle.vhost_message.specs.contracts.header.VhostUserMsgHeader.{the_row as header_row};
-    ghost use Rattle.vhost_message.specs.contracts.frontend_req.FrontendReq.{the_row as code_row};
+    ghost use Rattle.vhost_message.specs.contracts.heard_req.HeardReq.{the_row as code_row};
     ghost use Rattle.vhost_frontend_core.specs.contracts.internal.FrontendInternal.{the_row};
     ghost use Rattle.vhost_frontend_core.specs.Frontend.{endpoint_of, session_of, awaits, with_endpoint};
 

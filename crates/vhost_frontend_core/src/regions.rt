@@ -9,11 +9,11 @@ ghost use Rattle.vhost_message.specs.Records.{regions_of};
 ghost use Rattle.vhost_protocol.specs.Ask as ask;
 ghost use Rattle.vhost_protocol.specs.AnswerTable.{are_same_ranges, is_same_range, bases_in};
 ghost use Rattle.vhost_frontend_core.specs.Asking.{tested};
-ghost use Rattle.vhost_frontend_types.specs.Region.{region_in};
+ghost use Rattle.vhost_backend.specs.Region.{region_in};
 ghost use Rattle.vhost_frontend_core.specs.Regions.{info_in, info_of, infos_in, table_in};
 
 use crate::asked::KeptTable;
-use vhost_frontend_types::VhostUserMemoryRegionInfo;
+use vhost_backend::VhostUserMemoryRegionInfo;
 use vhost_message::{Error, MAX_MEM_REGIONS, Result, VhostUserMemoryRegion, read_region};
 
 /// A region of guest memory, and the descriptor that maps it, as a call keeps them.

@@ -14,17 +14,17 @@ use Rattle.vhost_protocol.specs.Split.{Message}
 use Rattle.vhost_protocol.specs.Stream.{Cell}
 use Rattle.vhost_protocol.specs.Written.{U64}
 use Rattle.vhost_link.specs.Law.{Event}
-use Rattle.vhost_endpoint.specs.Talk.{State}
-use Rattle.vhost_endpoint.specs.Requests as requests
-use Rattle.vhost_endpoint.specs.Requests.{IsReady, Reads, Tells}
-use Rattle.vhost_endpoint.specs.declared.request.Request.{Request}
+use Rattle.vhost_connection.specs.Talk.{State}
+use Rattle.vhost_connection.specs.Requests as requests
+use Rattle.vhost_connection.specs.Requests.{IsReady, Reads, Tells}
+use Rattle.vhost_connection.specs.declared.request.Request.{Request}
 use Rattle.vhost_frontend_req_handler.specs.declared.asked.Asked.TheVariants.{Answered, BadBody, Unserved}
 use Rattle.vhost_frontend_req_handler.specs.Core as core
 use Rattle.vhost_frontend_req_handler.specs.Core.{Asks, number_cells}
 use Rattle.vhost_frontend_req_handler.specs.Handling.{fitting}
-use Rattle.vhost_endpoint.specs.Serving as serving
-use Rattle.vhost_endpoint.specs.Serving.{Answers}
-use Rattle.vhost_endpoint.proofs.Serving.{none-sent, replies-told, stops-told}
+use Rattle.vhost_connection.specs.Serving as serving
+use Rattle.vhost_connection.specs.Serving.{Answers}
+use Rattle.vhost_connection.proofs.Serving.{none-sent, replies-told, stops-told}
 
 -- no number is wanted
 pub unwanted : {L H : Type 0} {event : L → Event H → L → Type 0} {old : State L H} (s : Server) (request : Request BackendReq) (answer : Result ℕ IoError) → IsReady old

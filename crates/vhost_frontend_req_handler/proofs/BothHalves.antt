@@ -12,13 +12,13 @@ use Rattle.vhost_protocol.specs.Served.{cells_of, reply}
 use Rattle.vhost_protocol.specs.Split.{Message}
 use Rattle.vhost_protocol.specs.Stream.{Cell}
 use Rattle.vhost_link.specs.Law.{Event}
-use Rattle.vhost_endpoint.specs.Requests.{Reads, Replies, Stops}
-use Rattle.vhost_endpoint.specs.Serving as serving
-use Rattle.vhost_endpoint.specs.Serving.{Answers}
-use Rattle.vhost_endpoint.specs.Talk.{State}
-use Rattle.vhost_endpoint.specs.declared.request.Request.{Request}
-use Rattle.vhost_endpoint.proofs.Running.{wider-once}
-use Rattle.vhost_endpoint.proofs.Serving.{handles-request, same_message}
+use Rattle.vhost_connection.specs.Requests.{Reads, Replies, Stops}
+use Rattle.vhost_connection.specs.Serving as serving
+use Rattle.vhost_connection.specs.Serving.{Answers}
+use Rattle.vhost_connection.specs.Talk.{State}
+use Rattle.vhost_connection.specs.declared.request.Request.{Request}
+use Rattle.vhost_connection.proofs.Running.{wider-once}
+use Rattle.vhost_connection.proofs.Serving.{handles-request, same_message}
 use Rattle.vhost_frontend_req_handler.specs.Calling.{call_in}
 use Rattle.vhost_frontend_req_handler.specs.Core.{endpoint_of, server_in}
 use Rattle.vhost_frontend_req_handler.specs.Halves.{Concludes, HalvesRefuse, HalvesServe, concluded, stopped, uncalled}

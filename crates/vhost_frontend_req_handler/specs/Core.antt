@@ -13,12 +13,12 @@ use Rattle.vhost_protocol.specs.Served.{reply, cells_of}
 use Rattle.vhost_protocol.specs.Split.{Message}
 use Rattle.vhost_protocol.specs.Stream.{Cell}
 use Rattle.vhost_link.specs.Law.{Event}
-use Rattle.vhost_endpoint.specs.declared.endpoint.Endpoint.{Endpoint}
-use Rattle.vhost_endpoint.specs.declared.request.Request.{Request}
-use Rattle.vhost_endpoint.specs.State.{state}
-use Rattle.vhost_endpoint.specs.Talk.{State}
-use Rattle.vhost_endpoint.specs.Calls.{HandsOver}
-use Rattle.vhost_endpoint.specs.Requests.{Reads, IsReady, Tells}
+use Rattle.vhost_connection.specs.declared.endpoint.Endpoint.{Endpoint}
+use Rattle.vhost_connection.specs.declared.request.Request.{Request}
+use Rattle.vhost_connection.specs.State.{state}
+use Rattle.vhost_connection.specs.Talk.{State}
+use Rattle.vhost_connection.specs.Calls.{HandsOver}
+use Rattle.vhost_connection.specs.Requests.{Reads, IsReady, Tells}
 use Rattle.vhost_frontend_req_handler.specs.declared.asked.Asked.{Asked}
 use Rattle.vhost_frontend_req_handler.specs.declared.asked.Asked.TheVariants.{Answered, BadBody, Unserved}
 use Rattle.vhost_frontend_req_handler.specs.declared.call.Begun.{Begun}
@@ -27,7 +27,7 @@ use Rattle.vhost_frontend_req_handler.specs.declared.call.FrontendSideCall.{Fron
 use Rattle.vhost_frontend_req_handler.specs.declared.req_core.FrontendReqCore.{FrontendReqCore}
 use Rattle.vhost_frontend_req_handler.specs.Calling.{call_in}
 use Rattle.vhost_frontend_req_handler.specs.Handling.{fitting}
-use Rattle.vhost_endpoint.specs.Serving.{Answers}
+use Rattle.vhost_connection.specs.Serving.{Answers}
 
 -- its endpoint
 abbrev pub endpoint_of : {L H : Type 0} → FrontendReqCore L H → State L H

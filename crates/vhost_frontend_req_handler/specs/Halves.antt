@@ -9,9 +9,9 @@ use Rattle.vhost_protocol.specs.Error.{seen_result}
 use Rattle.vhost_protocol.specs.IoError.{IoError, seen_io_result}
 use Rattle.vhost_protocol.specs.Reverse.{ReverseCall, Calls, Server, backend_allows_handles, handed_on, result_number, reverse_row_of, with_number}
 use Rattle.vhost_link.specs.Law.{Event}
-use Rattle.vhost_endpoint.specs.Requests.{ReadsMessage, Replies, Stops}
-use Rattle.vhost_endpoint.specs.Talk.{State}
-use Rattle.vhost_endpoint.specs.declared.request.Request.{Request}
+use Rattle.vhost_connection.specs.Requests.{ReadsMessage, Replies, Stops}
+use Rattle.vhost_connection.specs.Talk.{State}
+use Rattle.vhost_connection.specs.declared.request.Request.{Request}
 use Rattle.vhost_frontend_req_handler.specs.Calling.{call_in}
 use Rattle.vhost_frontend_req_handler.specs.Core.{endpoint_of, number_cells, server_in}
 use Rattle.vhost_frontend_req_handler.specs.Handling.{HandlesOne}

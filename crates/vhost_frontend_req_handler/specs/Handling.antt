@@ -6,8 +6,8 @@ use Rattle.vhost_message.specs.declared.error.Error as declared
 use Rattle.vhost_protocol.specs.IoError.{IoError}
 use Rattle.vhost_protocol.specs.Reverse.{ReverseCall, ReverseMeets, Server, backend_allows_handles, result_number}
 use Rattle.vhost_link.specs.Law.{Event}
-use Rattle.vhost_endpoint.specs.Talk.{State}
-use Rattle.vhost_endpoint.specs.Serving as serving
+use Rattle.vhost_connection.specs.Talk.{State}
+use Rattle.vhost_connection.specs.Serving as serving
 
 -- a device's relation, over answers whose number is one of 64 bits
 abbrev pub fitting : {H Dev : Type 0} → (Dev → ReverseCall H → Result ℕ IoError → Dev → Type 0) → Dev → ReverseCall H → Result ℕ IoError → Dev → Type 0

@@ -24,7 +24,7 @@ pub struct FrontendReqHandler<L: Link, S> {
 }
 
 impl<L: Link, S: VhostUserFrontendReqHandler<Handle = L::Handle>> FrontendReqHandler<L, S> {
-    ghost use Rattle.vhost_endpoint.specs.State.{fresh};
+    ghost use Rattle.vhost_connection.specs.State.{fresh};
     ghost use Rattle.vhost_frontend_req_handler.specs.Core.{endpoint_of, server_in};
     ghost use Rattle.vhost_frontend_req_handler.specs.Sharing.{ServesShared};
 

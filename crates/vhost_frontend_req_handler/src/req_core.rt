@@ -9,7 +9,7 @@ use crate::call::{Begun, call_device};
 use crate::device::VhostUserFrontendReqHandlerMut;
 use crate::numbers::{EINVAL, hand_on, number_of};
 use std::alloc::Global;
-use vhost_endpoint::{Body, Endpoint, new_body};
+use vhost_connection::{Body, Endpoint, new_body};
 use vhost_link::Link;
 use vhost_message::{BackendReq, Error, IoCause, Result, VhostUserMsgHeader, VhostUserU64};
 
@@ -21,7 +21,7 @@ pub use halves::halves_law;
 type Header = VhostUserMsgHeader<BackendReq>;
 
 /// A request of a backend as it was read.
-type Request = vhost_endpoint::Request<BackendReq>;
+type Request = vhost_connection::Request<BackendReq>;
 
 /// The frontend's side of the backend channel over a link, without what serves the requests.
 ///
@@ -41,8 +41,8 @@ pub struct FrontendReqCore<L: Link> {
 
 impl<L: Link> FrontendReqCore<L> {
     ghost use Rattle.std.specs.Borrow.{sem, Lends};
-    ghost use Rattle.vhost_endpoint.specs.State.{fresh, state};
-    ghost use Rattle.vhost_endpoint.specs.contracts.endpoint.Endpoint.{the_row as endpoint_row};
+    ghost use Rattle.vhost_connection.specs.State.{fresh, state};
+    ghost use Rattle.vhost_connection.specs.contracts.endpoint.Endpoint.{the_row as endpoint_row};
     ghost use Rattle.vhost_message.specs.contracts.backend_req.BackendReq.{the_row as code_row};
     ghost use Rattle.vhost_message.specs.contracts.header.VhostUserMsgHeader.{the_row as header_row};
     ghost use Rattle.vhost_frontend_req_handler.specs.contracts.req_core.FrontendReqCore.{the_row};

@@ -17,15 +17,15 @@ use Rattle.vhost_protocol.specs.ReplySplit.{Received, reply_split}
 use Rattle.vhost_protocol.specs.Row.{always}
 use Rattle.vhost_protocol.specs.Stream.{Cell, bytes, carrying, first_handles, has_some, items}
 use Rattle.vhost_link.specs.Law.{Event}
-use Rattle.vhost_endpoint.specs.Pass.{receives}
-use Rattle.vhost_endpoint.specs.Talk.{State, IfSound}
-use Rattle.vhost_endpoint.specs.Came.{Came, Alone}
-use Rattle.vhost_endpoint.specs.Calls.{Sends, HandsOver, ReadsPayload, IsNoMessage, is_sound}
-use Rattle.vhost_endpoint.specs.Calls.IsNoMessage.{too_few, not_valid}
-use Rattle.vhost_endpoint.specs.Hearing.{Hears, broken_on}
-use Rattle.vhost_endpoint.proofs.Came.{came-ended}
-use Rattle.vhost_endpoint.proofs.Failing.{trouble-breaks}
-use Rattle.vhost_endpoint.proofs.Replies.{hears-by, reply_in, outcome, splits, is-whole, is-invalid, reply-short}
+use Rattle.vhost_connection.specs.Pass.{receives}
+use Rattle.vhost_connection.specs.Talk.{State, IfSound}
+use Rattle.vhost_connection.specs.Came.{Came, Alone}
+use Rattle.vhost_connection.specs.Calls.{Sends, HandsOver, ReadsPayload, IsNoMessage, is_sound}
+use Rattle.vhost_connection.specs.Calls.IsNoMessage.{too_few, not_valid}
+use Rattle.vhost_connection.specs.Hearing.{Hears, broken_on}
+use Rattle.vhost_connection.proofs.Came.{came-ended}
+use Rattle.vhost_connection.proofs.Failing.{trouble-breaks}
+use Rattle.vhost_connection.proofs.Replies.{hears-by, reply_in, outcome, splits, is-whole, is-invalid, reply-short}
 use Rattle.vhost_gpu_backend_req.specs.Asking.{unexpected, RecvsRecord, Takes, Asks, read_as}
 use Rattle.vhost_gpu_backend_req.specs.Asking.Asks.{unsent, asked_for}
 use Rattle.vhost_gpu_backend_req.specs.Asking.RecvsRecord.{heard, stopped}

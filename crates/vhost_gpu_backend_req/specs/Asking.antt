@@ -12,9 +12,9 @@ use Rattle.vhost_protocol.specs.Gpu.{GpuCall, GpuReply, GpuSent, gpu_row, gpu_he
 use Rattle.vhost_protocol.specs.IoError.{IoError, In, seen_io, seen_io_result}
 use Rattle.vhost_protocol.specs.Stream.{Cell}
 use Rattle.vhost_link.specs.Law.{Event}
-use Rattle.vhost_endpoint.specs.Talk.{State}
-use Rattle.vhost_endpoint.specs.Calls.{Sends}
-use Rattle.vhost_endpoint.specs.Hearing.{Hears, Fails}
+use Rattle.vhost_connection.specs.Talk.{State}
+use Rattle.vhost_connection.specs.Calls.{Sends}
+use Rattle.vhost_connection.specs.Hearing.{Hears, Fails}
 use Rattle.vhost_gpu_backend_req.specs.Channel.{Channel}
 
 -- a record instead of its bytes

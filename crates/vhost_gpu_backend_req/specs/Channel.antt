@@ -1,10 +1,10 @@
 -- The channel to a display, as contracts see it.
 use Rattle.std.specs.Prelude.{ℕ, ℤ, Option, None}
-use Rattle.vhost_endpoint.specs.State.{state, fresh}
-use Rattle.vhost_endpoint.specs.declared.endpoint.Endpoint.{Endpoint}
+use Rattle.vhost_connection.specs.State.{state, fresh}
+use Rattle.vhost_connection.specs.declared.endpoint.Endpoint.{Endpoint}
 use Rattle.vhost_gpu_message.specs.declared.header.VhostUserGpuMsgHeader.{VhostUserGpuMsgHeader}
 use Rattle.vhost_gpu_message.specs.declared.gpu_backend_req.GpuBackendReq.{GpuBackendReq}
-use Rattle.vhost_endpoint.specs.Talk.{State}
+use Rattle.vhost_connection.specs.Talk.{State}
 use Rattle.vhost_gpu_backend_req.specs.declared.internal.BackendInternal.{BackendInternal}
 
 -- its endpoint, and the number of the error with which it was marked as failed

@@ -15,8 +15,8 @@ use Rattle.vhost_protocol.specs.Gpu.{GpuSent, gpu_row, gpu_head, sent_by, gpu_re
 use Rattle.vhost_protocol.specs.IoError.{IoError, In, seen_io}
 use Rattle.vhost_protocol.specs.Stream.{Cell, carrying}
 use Rattle.vhost_link.specs.Law.{Event}
-use Rattle.vhost_endpoint.specs.Talk.{State}
-use Rattle.vhost_endpoint.specs.Calls.{Sends}
+use Rattle.vhost_connection.specs.Talk.{State}
+use Rattle.vhost_connection.specs.Calls.{Sends}
 use Rattle.vhost_gpu_backend_req.specs.Channel.{Channel}
 use Rattle.vhost_gpu_backend_req.specs.declared.call.GpuCall.{GpuCall}
 use Rattle.vhost_gpu_backend_req.specs.declared.call.GpuCall.TheVariants as call

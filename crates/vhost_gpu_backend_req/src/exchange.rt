@@ -10,7 +10,7 @@ ghost use Rattle.vhost_protocol.specs.Gpu.{GpuReply, gpu_message, gpu_record_siz
 ghost use Rattle.vhost_protocol.specs.IoError.{In, seen_io_result};
 
 use crate::internal::{BackendInternal, Header};
-use vhost_endpoint::break_on_fault;
+use vhost_connection::break_on_fault;
 use vhost_gpu_message::{GpuBackendReq, MAX_GPU_MSG_SIZE};
 use vhost_link::Link;
 use vhost_message::{ByteValued, Error, HandlerResult, IoCause, IoError, VhostUserMsgValidator};
@@ -28,7 +28,7 @@ impl<L: Link> BackendInternal<L> {
     ghost use Rattle.vhost_gpu_backend_req.specs.Channel.{channel};
     ghost use Rattle.vhost_gpu_backend_req.specs.Asking.{SendsRow, RecvsRecord, Asks};
     ghost use Rattle.vhost_gpu_backend_req.specs.Halves.{Prepares, SendsFront};
-    ghost use Rattle.vhost_endpoint.specs.State.{state};
+    ghost use Rattle.vhost_connection.specs.State.{state};
 
     /// SocketBroken: the channel was marked as failed.
     fn check_state(&self) -> HandlerResult<()>

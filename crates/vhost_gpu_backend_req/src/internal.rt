@@ -4,7 +4,7 @@ ghost use Rattle.std.specs.Prelude.{◌≡◌, Some, IfOk, IfErr};
 ghost use Rattle.vhost_message.specs.declared.error.Error.TheVariants.{OutOfMemory};
 
 use std::alloc::Global;
-use vhost_endpoint::Endpoint;
+use vhost_connection::Endpoint;
 use vhost_gpu_message::{GpuBackendReq, VhostUserGpuMsgHeader};
 use vhost_link::Link;
 use vhost_message::Result;
@@ -22,8 +22,8 @@ pub struct BackendInternal<L: Link> {
 
 impl<L: Link> BackendInternal<L> {
     ghost use Rattle.std.specs.Borrow.{sem, Lends};
-    ghost use Rattle.vhost_endpoint.specs.State.{state};
-    ghost use Rattle.vhost_endpoint.specs.contracts.endpoint.Endpoint.{the_row as endpoint_row};
+    ghost use Rattle.vhost_connection.specs.State.{state};
+    ghost use Rattle.vhost_connection.specs.contracts.endpoint.Endpoint.{the_row as endpoint_row};
     ghost use Rattle.vhost_gpu_message.specs.contracts.gpu_backend_req.GpuBackendReq.{the_row as code_row};
     ghost use Rattle.vhost_gpu_message.specs.contracts.header.VhostUserGpuMsgHeader.{the_row as header_row};
     ghost use Rattle.vhost_gpu_backend_req.specs.contracts.internal.BackendInternal.{the_row};

@@ -5,10 +5,10 @@ use Rattle.vhost_protocol.specs.declared.profile.Profile.{Profile}
 use Rattle.vhost_protocol.specs.Profile.{is_standard}
 use Rattle.vhost_frontend_core.specs.declared.values.answer.FrontendAnswer.{FrontendAnswer}
 use Rattle.vhost_frontend_core.specs.declared.values.call.FrontendCall.{FrontendCall}
-use Rattle.vhost_pair.specs.Device.{Gives}
-use Rattle.vhost_pair.specs.Joined.{View}
-use Rattle.vhost_pair.specs.Lockstep.{InLockstep, Lockstep}
-use Rattle.vhost_pair.specs.Sides.{as_view, fresh_parts}
+use Rattle.vhost_joined.specs.Device.{Gives}
+use Rattle.vhost_joined.specs.Joined.{View}
+use Rattle.vhost_joined.specs.Lockstep.{InLockstep, Lockstep}
+use Rattle.vhost_joined.specs.Sides.{as_view, fresh_parts}
 use Rattle.vhost_headline.specs.Headline.{IsInStep, NothingStopped}
 
 -- both sides of one profile

@@ -5,7 +5,7 @@ use Rattle.vhost_message.specs.declared.cause.IoCause.{IoCause}
 use Rattle.vhost_message.specs.declared.cause.IoCause.TheVariants.{Raw}
 use Rattle.vhost_message.specs.declared.error.Error as declared
 use Rattle.vhost_message.specs.declared.error.Error.TheVariants.{SocketBroken}
-use Rattle.vhost_message.specs.declared.frontend_req.FrontendReq.{FrontendReq}
+use Rattle.vhost_message.specs.declared.heard_req.HeardReq.{HeardReq}
 use Rattle.vhost_protocol.specs.Codes.{allows_handles}
 use Rattle.vhost_protocol.specs.DeviceCall.{Call, Answer}
 use Rattle.vhost_protocol.specs.Error.{Error, seen_result}
@@ -15,18 +15,18 @@ use Rattle.vhost_protocol.specs.Session.{Session, heard_in}
 use Rattle.vhost_protocol.specs.Split.{Message}
 use Rattle.vhost_protocol.specs.Stream.{Cell, Item}
 use Rattle.vhost_link.specs.Law.{Event, Move, move}
-use Rattle.vhost_endpoint.specs.Talk.{State, Talks, First, Trouble}
-use Rattle.vhost_endpoint.specs.Talk.Trouble.{was_broken, no_memory, fault}
-use Rattle.vhost_endpoint.specs.Serving.{Handled, HandlesOne}
-use Rattle.vhost_endpoint.specs.Serving.Breaks.{unread, unanswered}
-use Rattle.vhost_endpoint.proofs.Serving.{as-entry}
-use Rattle.vhost_serving.specs.Serving.{fitting, kept_unsent}
+use Rattle.vhost_connection.specs.Talk.{State, Talks, First, Trouble}
+use Rattle.vhost_connection.specs.Talk.Trouble.{was_broken, no_memory, fault}
+use Rattle.vhost_connection.specs.Serving.{Handled, HandlesOne}
+use Rattle.vhost_connection.specs.Serving.Breaks.{unread, unanswered}
+use Rattle.vhost_connection.proofs.Serving.{as-entry}
+use Rattle.vhost_backend_req_handler.specs.Serving.{fitting, kept_unsent}
 use Rattle.vhost_link.specs.declared.handle.Kind.{Kind}
 use Rattle.vhost_backend_req.specs.declared.backend.Backend.{Backend}
 use Rattle.vhost_gpu_backend_req.specs.declared.backend.GpuBackend.{GpuBackend}
-use Rattle.vhost_serving.specs.declared.session_core.SessionCore.{SessionCore}
-use Rattle.vhost_serving.specs.Core.{endpoint_of, session_in}
-use Rattle.vhost_serving.specs.Opening.{OpensAsBackend, OpensAsGpu}
+use Rattle.vhost_backend_req_handler.specs.declared.session_core.SessionCore.{SessionCore}
+use Rattle.vhost_backend_req_handler.specs.Core.{endpoint_of, session_in}
+use Rattle.vhost_backend_req_handler.specs.Opening.{OpensAsBackend, OpensAsGpu}
 use Rattle.vhost_promises.proofs.Faulting.{met-fault}
 use Rattle.vhost_promises.proofs.Unserved.{unserved}
 use Rattle.vhost_promises.proofs.Whole.{breaks-of-link}
@@ -41,7 +41,7 @@ troubled-sound event old limit m e new (no_memory g b l n same) none = ap (λ x.
 troubled-sound event old limit m e new (fault c b f k few spent broken faulted kept) none = absurd (cc (sym faulted ∙ none))
 
 module _ {L H B G Dev : Type 0} (event : L → Event H → L → Type 0) (gives : Dev → (c : Call H B G) → Answer c → Dev → Type 0) (opens_backend : H → Result B Error → Type 0) (opens_gpu : H → Result G Error → Type 0) where
-  abbrev Meets : Session → Dev → Message FrontendReq H → Result ⊤ Error → List (Cell H) → Session → Dev → Type 0
+  abbrev Meets : Session → Dev → Message HeardReq H → Result ⊤ Error → List (Cell H) → Session → Dev → Type 0
   Meets = MeetsRow (fitting gives) opens_backend opens_gpu
 
   abbrev Whole : State L H → Session → Dev → Result ⊤ Error → State L H → Session → Dev → Type 0
@@ -60,7 +60,7 @@ module _ {L H B G Dev : Type 0} (event : L → Event H → L → Type 0) (gives 
 
   -- ---- the device
 
-  heard-once : (heard : Result (Message FrontendReq H) Error) (s : Session) (d : Dev) (answer : Result ⊤ Error) (written : List (Cell H)) (s' : Session) (d' : Dev)
+  heard-once : (heard : Result (Message HeardReq H) Error) (s : Session) (d : Dev) (answer : Result ⊤ Error) (written : List (Cell H)) (s' : Session) (d' : Dev)
       → run.Handles heard_in allows_handles (λ (t : Session). t.failed) Meets s d heard answer written s' d' → Once gives opens_backend opens_gpu s d s' d'
   heard-once (Err e) s d answer written s' d' (is, silent, same, still) = inr (still, inl same)
   heard-once (Ok m) s d answer written s' d' met = met-once gives opens_backend opens_gpu s d m answer written s' d' met

@@ -3,8 +3,8 @@
 ghost use Rattle.std.specs.Prelude.{◌≡◌, ◌≤◌, ◌∷◌, [], Bool, IfOk, length, map};
 ghost use Rattle.vhost_headline.specs.Headline.{IsInStep, IsLegalLog, IsRun, MeetsItsRow, NothingFailed, NothingStopped, SafeAndTotal};
 ghost use Rattle.vhost_message.specs.declared.limits.TheConstants.{MAX_ATTACHED_FD_ENTRIES};
-ghost use Rattle.vhost_pair.specs.Joined.{Offers};
-ghost use Rattle.vhost_pair.specs.Lockstep.{ArePlain};
+ghost use Rattle.vhost_joined.specs.Joined.{Offers};
+ghost use Rattle.vhost_joined.specs.Lockstep.{ArePlain};
 ghost use Rattle.vhost_promises.specs.Rings.{Arrives, part_cells, sent_cells};
 ghost use Rattle.vhost_promises.specs.Shared.{OwnAnswer};
 ghost use Rattle.vhost_protocol.specs.FrontendCall as call;
@@ -12,15 +12,15 @@ ghost use Rattle.vhost_protocol.specs.FrontendCall as call;
 use std::alloc::{AllocError, Global};
 use std::sync::Wait;
 use std::thread::Threads;
+use vhost_backend_req_handler::SessionCore;
 use vhost_device::VhostUserBackendReqHandlerMut;
 use vhost_frontend::Frontend;
 use vhost_frontend_core::{FrontendAnswer, FrontendCall};
+use vhost_joined::{Halt, Joined};
 use vhost_link::{Cut, Link, MemLink, PlainHandle};
-use vhost_pair::{Halt, Joined};
 use vhost_promises::{Carried, carries, own_features, serves_whole};
 use vhost_protocol::Profile;
 use vhost_recorder::{Entry, Log};
-use vhost_serving::SessionCore;
 
 /// 1. Safe and total: whatever a peer sends, and however it is cut.
 pub fn safe_and_total<L: Link, D: VhostUserBackendReqHandlerMut<Link = L>>(
@@ -83,10 +83,7 @@ pub fn threads<D: VhostUserBackendReqHandlerMut<Link = MemLink>>(log: &Log<D>) -
 }
 
 /// 5. Threads: a caller of a shared frontend is told the answer to its own request, whatever others ask.
-pub fn own_answer<L: Link>(
-    frontend: &Frontend<L>,
-    rt: &impl Wait,
-) -> vhost_frontend_types::Result<u64>
+pub fn own_answer<L: Link>(frontend: &Frontend<L>, rt: &impl Wait) -> vhost_backend::Result<u64>
     ensures { IfOk result (λ features. OwnAnswer L.event call.GetFeatures (call.Number features)) }
 {
     own_features(frontend, rt)

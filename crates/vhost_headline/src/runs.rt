@@ -4,13 +4,13 @@ use crate::headline;
 use std::alloc::Global;
 use std::sync::Wait;
 use std::thread::Threads;
+use vhost_backend_req_handler::SessionCore;
 use vhost_dummy_backend::DummyBackendReqHandler;
 use vhost_frontend::Frontend;
 use vhost_frontend_core::{FrontendAnswer, FrontendCall};
 use vhost_link::{Cut, Kind, MemLink, PlainHandle};
 use vhost_message::Error;
 use vhost_protocol::Profile;
-use vhost_serving::SessionCore;
 
 /// GET_FEATURES, and SET_OWNER twice.
 static THREE: [u8; 36] = [

@@ -4,8 +4,8 @@ use Rattle.std.specs.Str.{is_utf8, chars}
 use lib.Utf8.{encode}
 use Rattle.hex.proofs.OnLiterals.{hex_on_literals}
 use Rattle.vhost_link.specs.declared.handle.Kind.TheVariants.{NoSocket, UnixStream}
-use Rattle.vhost_message.specs.declared.frontend_req.FrontendReq.TheVariants.{ADD_MEM_REG}
-use Rattle.vhost_protocol.specs.FrontendCall.{GetFeatures, SetFeatures, SetProtocolFeatures, SetMemTable, SetLogBase, SetVringNum, SetVringAddr, GetConfig, SetConfig, SetBackendRequestFd, SetDeviceStateFd, PostcopyAckMemRegions, SetMtu}
+use Rattle.vhost_message.specs.declared.heard_req.HeardReq.TheVariants.{ADD_MEM_REG}
+use Rattle.vhost_protocol.specs.FrontendCall.{GetFeatures, SetFeatures, SetProtocolFeatures, SetMemTable, SetLogBase, SetVringNum, SetVringBase, SetVringAddr, GetConfig, SetConfig, SetBackendRequestFd, SetDeviceStateFd, PostcopyAckMemRegions, SetMtu}
 use Rattle.vhost_lines.specs.Calls.{call_in}
 use Rattle.vhost_lines.specs.Number.{number, u16}
 use Rattle.vhost_lines.specs.Words.{words}
@@ -66,6 +66,18 @@ call-socket = refl
 pub call-ring : call_in (codes "set_vring_num 2 256") ≡ Some (SetVringNum 2 256)
 unfolding is_utf8 chars encode
 call-ring = refl
+
+pub call-base : call_in (codes "set_vring_base 1 65535") ≡ Some (SetVringBase 1 65535)
+unfolding is_utf8 chars encode
+call-base = refl
+
+pub call-large_base : call_in (codes "set_vring_base 1 65536") ≡ None
+unfolding is_utf8 chars encode
+call-large_base = refl
+
+pub call-packed_base : call_in (codes "set_packed_vring_base 1 0x80058003") ≡ Some (SetVringBase 1 0x80058003)
+unfolding is_utf8 chars encode
+call-packed_base = refl
 
 pub call-enabled : call_in (codes "set_vring_enable 1 2") ≡ None
 unfolding is_utf8 chars encode

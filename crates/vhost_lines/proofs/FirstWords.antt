@@ -171,36 +171,39 @@ all_read name args = (
                                           (
                                             short name args (codes "set_vring_num") (two u64 u16 SetVringNum) (two-short u64 u16 SetVringNum),
                                             (
-                                              short name args (codes "set_vring_base") (two u64 u32 SetVringBase) (two-short u64 u32 SetVringBase),
+                                              short name args (codes "set_vring_base") (two u64 u16 SetVringBase) (two-short u64 u16 SetVringBase),
                                               (
-                                                short name args (codes "set_vring_call") (two u64 handle (λ i h. SetVringCall i (Some h))) (two-short u64 handle (λ i h. SetVringCall i (Some h))),
+                                                short name args (codes "set_packed_vring_base") (two u64 u32 SetVringBase) (two-short u64 u32 SetVringBase),
                                                 (
-                                                  short name args (codes "set_vring_kick") (two u64 handle (λ i h. SetVringKick i (Some h))) (two-short u64 handle (λ i h. SetVringKick i (Some h))),
+                                                  short name args (codes "set_vring_call") (two u64 handle (λ i h. SetVringCall i (Some h))) (two-short u64 handle (λ i h. SetVringCall i (Some h))),
                                                   (
-                                                    short name args (codes "set_vring_err") (two u64 handle (λ i h. SetVringErr i (Some h))) (two-short u64 handle (λ i h. SetVringErr i (Some h))),
+                                                    short name args (codes "set_vring_kick") (two u64 handle (λ i h. SetVringKick i (Some h))) (two-short u64 handle (λ i h. SetVringKick i (Some h))),
                                                     (
-                                                      short name args (codes "set_vring_enable") (two u64 enabled SetVringEnable) (two-short u64 enabled SetVringEnable),
+                                                      short name args (codes "set_vring_err") (two u64 handle (λ i h. SetVringErr i (Some h))) (two-short u64 handle (λ i h. SetVringErr i (Some h))),
                                                       (
-                                                        short name args (codes "set_log_base") (set_log_base) (set_log_base-short),
+                                                        short name args (codes "set_vring_enable") (two u64 enabled SetVringEnable) (two-short u64 enabled SetVringEnable),
                                                         (
-                                                          short name args (codes "set_vring_addr") (set_vring_addr) (set_vring_addr-short),
+                                                          short name args (codes "set_log_base") (set_log_base) (set_log_base-short),
                                                           (
-                                                            short name args (codes "get_inflight_fd") (get_inflight_fd) (get_inflight_fd-short),
+                                                            short name args (codes "set_vring_addr") (set_vring_addr) (set_vring_addr-short),
                                                             (
-                                                              short name args (codes "set_inflight_fd") (set_inflight_fd) (set_inflight_fd-short),
+                                                              short name args (codes "get_inflight_fd") (get_inflight_fd) (get_inflight_fd-short),
                                                               (
-                                                                short name args (codes "add_mem_region") (add_mem_region) (λ words. ap (option_map AddMemRegion) (only_region-short words)),
+                                                                short name args (codes "set_inflight_fd") (set_inflight_fd) (set_inflight_fd-short),
                                                                 (
-                                                                  short name args (codes "remove_mem_region") (remove_mem_region) (λ words. ap (option_map RemoveMemRegion) (only_region-short words)),
+                                                                  short name args (codes "add_mem_region") (add_mem_region) (λ words. ap (option_map AddMemRegion) (only_region-short words)),
                                                                   (
-                                                                    short name args (codes "set_device_state_fd") (set_device_state_fd) (set_device_state_fd-short),
+                                                                    short name args (codes "remove_mem_region") (remove_mem_region) (λ words. ap (option_map RemoveMemRegion) (only_region-short words)),
                                                                     (
-                                                                      table name args,
+                                                                      short name args (codes "set_device_state_fd") (set_device_state_fd) (set_device_state_fd-short),
                                                                       (
-                                                                        short name args (codes "get_config") (get_config) (get_config-short),
+                                                                        table name args,
                                                                         (
-                                                                          short name args (codes "set_config") (set_config) (set_config-short),
-                                                                          tt,
+                                                                          short name args (codes "get_config") (get_config) (get_config-short),
+                                                                          (
+                                                                            short name args (codes "set_config") (set_config) (set_config-short),
+                                                                            tt,
+                                                                          ),
                                                                         ),
                                                                       ),
                                                                     ),

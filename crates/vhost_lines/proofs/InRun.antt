@@ -8,15 +8,15 @@ use Rattle.vhost_protocol.specs.Features.{PROTOCOL_FEATURES}
 use Rattle.vhost_dummy_backend.specs.Dummy.{DummyGives, fresh}
 use Rattle.vhost_frontend_core.specs.Values.{answer_of}
 use Rattle.vhost_protocol.specs.declared.profile.Profile.{Profile}
-use Rattle.vhost_pair.proofs.Lockstep.{begins, next-ready}
-use Rattle.vhost_pair.proofs.Ready.{ready-profile}
-use Rattle.vhost_pair.specs.Joined.{IsReady, Offers, Keeps}
-use Rattle.vhost_pair.specs.Device.{Gives}
-use Rattle.vhost_pair.specs.Joined as joined
-use Rattle.vhost_pair.specs.Text.{text_of}
-use Rattle.vhost_pair.specs.declared.halt.Halt.TheVariants.{Stopped, OutOfMemory}
-use Rattle.vhost_pair.specs.declared.halt.Stop.{Stop}
-use Rattle.vhost_pair.specs.declared.halt.Stop.TheVariants.{Table}
+use Rattle.vhost_joined.proofs.Lockstep.{begins, next-ready}
+use Rattle.vhost_joined.proofs.Ready.{ready-profile}
+use Rattle.vhost_joined.specs.Joined.{IsReady, Offers, Keeps}
+use Rattle.vhost_joined.specs.Device.{Gives}
+use Rattle.vhost_joined.specs.Joined as joined
+use Rattle.vhost_joined.specs.Text.{text_of}
+use Rattle.vhost_joined.specs.declared.halt.Halt.TheVariants.{Stopped, OutOfMemory}
+use Rattle.vhost_joined.specs.declared.halt.Stop.{Stop}
+use Rattle.vhost_joined.specs.declared.halt.Stop.TheVariants.{Table}
 use Rattle.vhost_lines.specs.Lines.{lines}
 use Rattle.vhost_lines.specs.Run.{Behind, RunShows, FreshShows, ShowsLines, ShowsFront, stopped_text}
 use Rattle.vhost_lines.specs.Session.{View, Device, Steps, AnswersLines, AnswersFront, IsFresh, copies, spares, request_of, reply_of, stopped_of}
@@ -84,11 +84,15 @@ fresh-shows profile start new ls text (alloc, is) all = (
 )
 
 -- what lines show that were answered
-pub lines_known : (profile : Profile) (before old new : Option (List ℕ)) → IfSome before (λ text. AnswersLines profile text old new) → IfSome before (λ text. ShowsLines profile text old new)
-lines_known profile None old new shows = tt
-lines_known profile (Some text) old new (start, end, shown, begun, all, written) = (shown, fresh-shows profile start end (good_lines (lines text)) shown begun all, written)
+pub lines_known : (comments : Bool) (profile : Profile) (before old new : Option (List ℕ)) → IfSome before (λ text. AnswersLines comments profile text old new)
+    → IfSome before (λ text. ShowsLines comments profile text old new)
+lines_known comments profile None old new shows = tt
+lines_known comments profile (Some text) old new (start, end, shown, begun, all, written) =
+    (shown, fresh-shows profile start end (good_lines comments (lines text)) shown begun all, written)
 
 -- a front of it
-pub front_known : (profile : Profile) (before old new : Option (List ℕ)) → IfSome before (λ text. AnswersFront profile text old new) → IfSome before (λ text. ShowsFront profile text old new)
-front_known profile None old new shows = tt
-front_known profile (Some text) old new (start, end, done, later, shown, begun, good, all, written) = (done, later, shown, good, fresh-shows profile start end done shown begun all, written)
+pub front_known : (comments : Bool) (profile : Profile) (before old new : Option (List ℕ)) → IfSome before (λ text. AnswersFront comments profile text old new)
+    → IfSome before (λ text. ShowsFront comments profile text old new)
+front_known comments profile None old new shows = tt
+front_known comments profile (Some text) old new (start, end, done, later, shown, begun, good, all, written) =
+    (done, later, shown, good, fresh-shows profile start end done shown begun all, written)

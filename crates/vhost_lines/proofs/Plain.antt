@@ -6,7 +6,7 @@ use Rattle.std.proofs.lemmas.Bool.{eqb-true}
 use Rattle.std.proofs.lemmas.Nat.Bits.{bit_at_and}
 use Rattle.vhost_message.specs.Bits.{has_bit}
 use Rattle.vhost_protocol.specs.FrontendCall.{SetVringNum, SetVringBase, SetVringCall, SetVringKick, SetVringErr, SetVringEnable, SetLogBase, GetInflightFd, SetInflightFd, AddMemRegion, RemoveMemRegion, SetDeviceStateFd, SetMemTable, GetConfig, SetConfig, SetHdrFlags}
-use Rattle.vhost_pair.specs.Lockstep.{IsPlain}
+use Rattle.vhost_joined.specs.Lockstep.{IsPlain}
 use Rattle.vhost_lines.specs.Arguments.{◌>>=◌, enabled, header_flags, config_flags, handle, direction, phase, byte_string, within}
 use Rattle.vhost_lines.specs.Number.{u64, u32, u16}
 use Rattle.vhost_lines.specs.Shapes.{bare, one, two, three, optional}
@@ -180,32 +180,35 @@ calls-plain = (
                                           (
                                             two-plain u64 u16 SetVringNum (λ a b. tt),
                                             (
-                                              two-plain u64 u32 SetVringBase (λ a b. tt),
+                                              two-plain u64 u16 SetVringBase (λ a b. tt),
                                               (
-                                                two-plain u64 handle (λ i h. SetVringCall i (Some h)) (λ a b. tt),
+                                                two-plain u64 u32 SetVringBase (λ a b. tt),
                                                 (
-                                                  two-plain u64 handle (λ i h. SetVringKick i (Some h)) (λ a b. tt),
+                                                  two-plain u64 handle (λ i h. SetVringCall i (Some h)) (λ a b. tt),
                                                   (
-                                                    two-plain u64 handle (λ i h. SetVringErr i (Some h)) (λ a b. tt),
+                                                    two-plain u64 handle (λ i h. SetVringKick i (Some h)) (λ a b. tt),
                                                     (
-                                                      two-plain u64 enabled SetVringEnable (λ a b. tt),
+                                                      two-plain u64 handle (λ i h. SetVringErr i (Some h)) (λ a b. tt),
                                                       (
-                                                        log-plain,
+                                                        two-plain u64 enabled SetVringEnable (λ a b. tt),
                                                         (
-                                                          addresses-plain,
+                                                          log-plain,
                                                           (
-                                                            get-area-plain,
+                                                            addresses-plain,
                                                             (
-                                                              set-area-plain,
+                                                              get-area-plain,
                                                               (
-                                                                add-plain,
+                                                                set-area-plain,
                                                                 (
-                                                                  remove-plain,
+                                                                  add-plain,
                                                                   (
-                                                                    three-plain direction phase handle (λ d p h. SetDeviceStateFd (record { direction = d; phase = p }) h) (λ a b d. tt),
+                                                                    remove-plain,
                                                                     (
-                                                                      table-plain,
-                                                                      (three-plain u32 u32 config_flags (λ offset size flags. GetConfig offset size flags (buffer size)) (λ a b d. tt), (three-plain u32 config_flags byte_string SetConfig (λ a b d. tt), tt)),
+                                                                      three-plain direction phase handle (λ d p h. SetDeviceStateFd (record { direction = d; phase = p }) h) (λ a b d. tt),
+                                                                      (
+                                                                        table-plain,
+                                                                        (three-plain u32 u32 config_flags (λ offset size flags. GetConfig offset size flags (buffer size)) (λ a b d. tt), (three-plain u32 config_flags byte_string SetConfig (λ a b d. tt), tt)),
+                                                                      ),
                                                                     ),
                                                                   ),
                                                                 ),

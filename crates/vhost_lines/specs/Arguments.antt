@@ -4,9 +4,9 @@ use Rattle.std.specs.Result.{result_ok}
 use Rattle.hex.specs.Hex.{decode_of, decode_sized}
 use Rattle.vhost_link.specs.declared.handle.Kind.TheVariants.{NoSocket, UnixStream}
 use Rattle.vhost_link.specs.declared.plain.PlainHandle.{PlainHandle}
-use Rattle.vhost_message.specs.FrontendReq.{request_of}
+use Rattle.vhost_message.specs.HeardReq.{request_of}
 use Rattle.vhost_message.specs.Transfer.{direction_at, direction_number, phase_at, phase_number}
-use Rattle.vhost_message.specs.declared.frontend_req.FrontendReq.{FrontendReq}
+use Rattle.vhost_message.specs.declared.heard_req.HeardReq.{HeardReq}
 use Rattle.vhost_message.specs.declared.records.shared.VhostUserSharedMsg.{VhostUserSharedMsg}
 use Rattle.vhost_lines.specs.Number.{u64, u32}
 
@@ -46,7 +46,7 @@ abbrev pub handle : List ℕ → Option PlainHandle
 handle word = option_map handle_of (u32 word)
 
 -- a request, by its code
-abbrev pub request : List ℕ → Option FrontendReq
+abbrev pub request : List ℕ → Option HeardReq
 request word = u32 word >>= request_of
 
 -- the number of a direction, and of a phase, in which the state of a device is transferred

@@ -1,5 +1,5 @@
 -- A text as lines, and what is to become of them.
-use Rattle.std.specs.Prelude.{◌≡◌, ℕ, ◌+◌, Bool, true, false, ◌||◌, List, [], ◌∷◌, ◌++◌, Option, Some, None, is_some, ⊤, ◌==◌, if◌then◌else◌, codes, decimal}
+use Rattle.std.specs.Prelude.{◌≡◌, ℕ, ◌+◌, Bool, true, false, ◌&&◌, ◌||◌, List, [], ◌∷◌, ◌++◌, Option, Some, None, is_some, ⊤, ◌==◌, if◌then◌else◌, codes, decimal}
 use Rattle.std.specs.Io.KnownBytes.{Appends}
 use Rattle.vhost_lines.specs.Calls.{call_in}
 
@@ -13,15 +13,19 @@ abbrev pub lines : List ℕ → List (List ℕ)
 lines [] = []
 lines (byte ∷ text) = if byte == 10 then [] ∷ lines text else with_first byte (lines text)
 
--- whether a line is passed over: it is empty, or begins with a number sign
+-- whether a line says nothing: it is empty, or begins with a number sign
 abbrev pub is_blank : List ℕ → Bool
 is_blank [] = true
 is_blank (byte ∷ line) = byte == 35
 
+-- whether a line is passed over: it says nothing, and there may be comments
+abbrev pub passes : (comments : Bool) → List ℕ → Bool
+passes comments line = comments && is_blank line
+
 -- the number of the first line that is no call and is not passed over, where there is one; the first of these lines has the number n
-abbrev pub bad_line : ℕ → List (List ℕ) → Option ℕ
-bad_line n [] = None
-bad_line n (line ∷ later) = if is_blank line || is_some (call_in line) then bad_line (n + 1) later else Some n
+abbrev pub bad_line : (comments : Bool) → ℕ → List (List ℕ) → Option ℕ
+bad_line comments n [] = None
+bad_line comments n (line ∷ later) = if passes comments line || is_some (call_in line) then bad_line comments (n + 1) later else Some n
 
 -- the status of a text that is read to its end, or to a line that is no call
 abbrev pub status_of : Option ℕ → ℕ
@@ -43,8 +47,3 @@ abbrev pub GivesLine : Option (List ℕ) → Option (List ℕ) → Bool → List
 GivesLine None after more line = ⊤
 GivesLine (Some text) after true line = (rest : List ℕ) × (after ≡ Some rest) × (lines text ≡ line ∷ lines rest)
 GivesLine (Some text) after false line = text ≡ []
-
--- what a reader has left begins with line n, where its bytes are known: the first bad line of all is that of the rest
-abbrev pub IsAtLine : Option (List ℕ) → Option (List ℕ) → ℕ → Type 0
-IsAtLine None now n = ⊤
-IsAtLine (Some text) now n = (rest : List ℕ) × (now ≡ Some rest) × (bad_line 1 (lines text) ≡ bad_line n (lines rest))

@@ -11,8 +11,8 @@ use Rattle.vhost_dummy_backend.specs.Dummy.{DummyGives, fresh}
 use Rattle.vhost_link.specs.declared.plain.PlainHandle.{PlainHandle}
 use Rattle.vhost_frontend_core.specs.Values.{answer_of}
 use Rattle.vhost_frontend_core.specs.declared.values.answer.FrontendAnswer.{FrontendAnswer}
-use Rattle.vhost_pair.specs.Device.{opens_backend, opens_gpu}
-use Rattle.vhost_pair.specs.Text.{text_of}
+use Rattle.vhost_joined.specs.Device.{opens_backend, opens_gpu}
+use Rattle.vhost_joined.specs.Text.{text_of}
 use Rattle.vhost_lines.specs.Calls.{Call, call_in}
 use Rattle.vhost_lines.specs.Lines.{lines}
 use Rattle.vhost_lines.specs.Output.{AppendsFront}
@@ -43,9 +43,9 @@ abbrev pub FreshShows : Profile → List (List ℕ) → List ℕ → Type 0
 FreshShows profile ls text = (alloc : Global) × RunShows (record (new_frontend 2) { profile = profile }) (record session.fresh { profile = profile }) (fresh alloc spares) ls text
 
 -- what is written shows the lines of a text up to the first one that is no call
-abbrev pub ShowsLines : Profile → List ℕ → Option (List ℕ) → Option (List ℕ) → Type 0
-ShowsLines profile text old new = (shown : List ℕ) × FreshShows profile (good_lines (lines text)) shown × Appends old new shown
+abbrev pub ShowsLines : (comments : Bool) → Profile → List ℕ → Option (List ℕ) → Option (List ℕ) → Type 0
+ShowsLines comments profile text old new = (shown : List ℕ) × FreshShows profile (good_lines comments (lines text)) shown × Appends old new shown
 
 -- what is written is a front of what such lines show, up to some line
-abbrev pub ShowsFront : Profile → List ℕ → Option (List ℕ) → Option (List ℕ) → Type 0
-ShowsFront profile text old new = (done later : List (List ℕ)) × (shown : List ℕ) × (good_lines (lines text) ≡ done ++ later) × FreshShows profile done shown × AppendsFront old new shown
+abbrev pub ShowsFront : (comments : Bool) → Profile → List ℕ → Option (List ℕ) → Option (List ℕ) → Type 0
+ShowsFront comments profile text old new = (done later : List (List ℕ)) × (shown : List ℕ) × (good_lines comments (lines text) ≡ done ++ later) × FreshShows profile done shown × AppendsFront old new shown

@@ -1,5 +1,5 @@
 -- How a session is seen that answers lines.
-use Rattle.std.specs.Prelude.{◌≡◌, ℕ, List, [], ◌∷◌, map, Option, None, Result, Ok}
+use Rattle.std.specs.Prelude.{◌≡◌, ℕ, Bool, List, [], ◌∷◌, map, Option, None, Result, Ok}
 use Rattle.std.specs.declared.alloc.Global.{Global}
 use Rattle.vhost_message.specs.declared.cause.IoCause.{IoCause}
 use Rattle.vhost_protocol.specs.declared.profile.Profile.{Profile}
@@ -10,11 +10,11 @@ use Rattle.vhost_dummy_backend.specs.declared.dummy.DummyBackendReqHandler.{Dumm
 use Rattle.vhost_link.specs.declared.handle.Kind.TheVariants.{NoSocket}
 use Rattle.vhost_link.specs.Ends.{Ends}
 use Rattle.vhost_link.specs.declared.plain.PlainHandle.{PlainHandle}
-use Rattle.vhost_pair.specs.Joined as joined
-use Rattle.vhost_pair.specs.Sides.{as_view, fresh_parts}
-use Rattle.vhost_pair.specs.Text.{Text}
-use Rattle.vhost_pair.specs.declared.halt.Halt.{Halt}
-use Rattle.vhost_pair.specs.declared.halt.Stop.{Stop}
+use Rattle.vhost_joined.specs.Joined as joined
+use Rattle.vhost_joined.specs.Sides.{as_view, fresh_parts}
+use Rattle.vhost_joined.specs.Text.{Text}
+use Rattle.vhost_joined.specs.declared.halt.Halt.{Halt}
+use Rattle.vhost_joined.specs.declared.halt.Stop.{Stop}
 use Rattle.vhost_lines.specs.Shown.{AnswersCall, ShowsText, ShowsFrontOf}
 
 -- the example device
@@ -59,9 +59,9 @@ abbrev pub Answers : View → Call → List ℕ → View → Type 0
 Answers = AnswersCall Steps request_of reply_of stopped_of
 
 -- what is written shows the lines of a text, answered one step of the code after another by a session as it begins, up to the first one that is no call
-abbrev pub AnswersLines : Profile → List ℕ → Option (List ℕ) → Option (List ℕ) → Type 0
-AnswersLines profile = ShowsText Steps request_of reply_of stopped_of (IsFresh profile)
+abbrev pub AnswersLines : (comments : Bool) → Profile → List ℕ → Option (List ℕ) → Option (List ℕ) → Type 0
+AnswersLines comments profile = ShowsText Steps request_of reply_of stopped_of comments (IsFresh profile)
 
 -- what is written is a front of what the lines of a text show, answered by a session as it begins
-abbrev pub AnswersFront : Profile → List ℕ → Option (List ℕ) → Option (List ℕ) → Type 0
-AnswersFront profile = ShowsFrontOf Steps request_of reply_of stopped_of (IsFresh profile)
+abbrev pub AnswersFront : (comments : Bool) → Profile → List ℕ → Option (List ℕ) → Option (List ℕ) → Type 0
+AnswersFront comments profile = ShowsFrontOf Steps request_of reply_of stopped_of comments (IsFresh profile)

@@ -4,7 +4,7 @@ use std::alloc::AllocError;
 use std::fmt::Formatter;
 use std::io::ErrorKind;
 use std::{fmt, io};
-use vhost_pair::Halt;
+use vhost_joined::Halt;
 
 /// Why the lines can't go on. It is displayed as one line: what failed, and the cause where one is known.
 #[derive(Clone, Copy)]

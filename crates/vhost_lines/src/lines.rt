@@ -1,9 +1,9 @@
 //! The lines of the input, each answered in its turn.
 
-ghost use Rattle.std.specs.Prelude.{◌≡◌, ◌≢◌, ◌≤◌, Some, IfSome, IfOk, OnOk, codes};
-ghost use Rattle.vhost_pair.specs.declared.halt.Stop.TheVariants.{Premise};
+ghost use Rattle.std.specs.Prelude.{◌≡◌, ◌≢◌, ◌≤◌, false, Some, IfSome, IfOk, OnOk, codes};
+ghost use Rattle.vhost_joined.specs.declared.halt.Stop.TheVariants.{Premise};
 ghost use Rattle.std.specs.Io.KnownBytes.{Appends};
-ghost use Rattle.vhost_lines.specs.Lines.{lines, is_blank, bad_line, status_of, complaint_of, Explains, GivesLine};
+ghost use Rattle.vhost_lines.specs.Lines.{lines, is_blank, passes, bad_line, status_of, complaint_of, Explains, GivesLine};
 ghost use Rattle.vhost_lines.specs.Shown.{line_text};
 ghost use Rattle.vhost_frontend_core.specs.Values.{call_of};
 ghost use Rattle.vhost_protocol.specs.declared.profile.Profile.TheVariants.{Vhost};
@@ -20,14 +20,14 @@ use std::io;
 use std::io::{BufRead, ErrorKind, Write};
 use vhost_device::VhostUserBackendReqHandlerMut;
 use vhost_frontend_core::{FrontendAnswer, FrontendCall, Profile};
+use vhost_joined::{Halt, Joined, Stop};
 use vhost_link::MemLink;
-use vhost_pair::{Halt, Joined, Stop};
 
 /// A frontend joined to the example device.
 type Session = Joined<Device>;
 
 /// Runs the calls of the input, one a line, on one session over the example device, and writes each line's request,
-/// reply and answer. Empty lines are passed over, and those that begin with a number sign.
+/// reply and answer. An empty line is no call.
 ///
 /// The status is 0 at the end of the input; 1 after a line that is no call, which is reported to `errors`; 2 after an I/O
 /// error of a reader, a writer or a link, or a failed allocation, which is reported to `errors` in one line, and then the
@@ -41,31 +41,33 @@ pub fn run_lines<I: BufRead, W: Write, E: Write>(
     errors: &mut E,
 ) -> u8
     ensures range { result ≤ 2 }
-    ensures status { result ≢ 2 → IfSome (I.remaining input.old) (λ text. result ≡ status_of (bad_line 1 (lines text))) }
-    ensures told { result ≢ 2 → IfSome (I.remaining input.old) (λ text. Appends (E.contents errors.old) (E.contents errors.new) (complaint_of (bad_line 1 (lines text)))) }
-    ensures shown { result ≢ 2 → IfSome (I.remaining input.old) (λ text. ShowsLines Vhost text (W.contents output.old) (W.contents output.new)) }
-    ensures front { IfSome (I.remaining input.old) (λ text. ShowsFront Vhost text (W.contents output.old) (W.contents output.new)) }
+    ensures status { result ≢ 2 → IfSome (I.remaining input.old) (λ text. result ≡ status_of (bad_line false 1 (lines text))) }
+    ensures told { result ≢ 2 → IfSome (I.remaining input.old) (λ text. Appends (E.contents errors.old) (E.contents errors.new) (complaint_of (bad_line false 1 (lines text)))) }
+    ensures shown { result ≢ 2 → IfSome (I.remaining input.old) (λ text. ShowsLines false Vhost text (W.contents output.old) (W.contents output.new)) }
+    ensures front { IfSome (I.remaining input.old) (λ text. ShowsFront false Vhost text (W.contents output.old) (W.contents output.new)) }
 {
-    run_lines_as(alloc, Profile::Vhost, input, output, errors)
+    run_lines_as(alloc, Profile::Vhost, false, input, output, errors)
 }
 
-/// The same, where both sides have this profile.
+/// The same, where both sides have this profile, and lines that say nothing are passed over where there may be comments: those that are
+/// empty, and those that begin with a number sign.
 #[tactic(auto, using(crate::proofs::InRun::lines_known, crate::proofs::InRun::front_known))]
 pub fn run_lines_as<I: BufRead, W: Write, E: Write>(
     alloc: Global,
     profile: Profile,
+    comments: bool,
     input: &mut I,
     output: &mut W,
     errors: &mut E,
 ) -> u8
     ensures range { result ≤ 2 }
-    ensures status { result ≢ 2 → IfSome (I.remaining input.old) (λ text. result ≡ status_of (bad_line 1 (lines text))) }
-    ensures told { result ≢ 2 → IfSome (I.remaining input.old) (λ text. Appends (E.contents errors.old) (E.contents errors.new) (complaint_of (bad_line 1 (lines text)))) }
-    ensures shown { result ≢ 2 → IfSome (I.remaining input.old) (λ text. ShowsLines profile text (W.contents output.old) (W.contents output.new)) }
-    ensures front { IfSome (I.remaining input.old) (λ text. ShowsFront profile text (W.contents output.old) (W.contents output.new)) }
+    ensures status { result ≢ 2 → IfSome (I.remaining input.old) (λ text. result ≡ status_of (bad_line comments 1 (lines text))) }
+    ensures told { result ≢ 2 → IfSome (I.remaining input.old) (λ text. Appends (E.contents errors.old) (E.contents errors.new) (complaint_of (bad_line comments 1 (lines text)))) }
+    ensures shown { result ≢ 2 → IfSome (I.remaining input.old) (λ text. ShowsLines comments profile text (W.contents output.old) (W.contents output.new)) }
+    ensures front { IfSome (I.remaining input.old) (λ text. ShowsFront comments profile text (W.contents output.old) (W.contents output.new)) }
 {
     let mut line = Vec::new(alloc);
-    match answer_lines(alloc, profile, input, output, &mut line) {
+    match answer_lines(alloc, profile, comments, input, output, &mut line) {
         Ok(None) => 0,
         Ok(Some(number)) => match complain(number, errors) {
             Ok(()) => 1,
@@ -83,18 +85,19 @@ pub fn run_lines_as<I: BufRead, W: Write, E: Write>(
 pub fn explain_lines_as<I: BufRead, W: Write, E: Write>(
     alloc: Global,
     profile: Profile,
+    comments: bool,
     input: &mut I,
     output: &mut W,
     errors: &mut E,
 ) -> u8
     ensures range { result ≤ 2 }
-    ensures status { result ≢ 2 → IfSome (I.remaining input.old) (λ text. result ≡ status_of (bad_line 1 (lines text))) }
-    ensures told { result ≢ 2 → IfSome (I.remaining input.old) (λ text. Explains (E.contents errors.old) (E.contents errors.new) (bad_line 1 (lines text))) }
-    ensures shown { result ≢ 2 → IfSome (I.remaining input.old) (λ text. ShowsLines profile text (W.contents output.old) (W.contents output.new)) }
-    ensures front { IfSome (I.remaining input.old) (λ text. ShowsFront profile text (W.contents output.old) (W.contents output.new)) }
+    ensures status { result ≢ 2 → IfSome (I.remaining input.old) (λ text. result ≡ status_of (bad_line comments 1 (lines text))) }
+    ensures told { result ≢ 2 → IfSome (I.remaining input.old) (λ text. Explains (E.contents errors.old) (E.contents errors.new) (bad_line comments 1 (lines text))) }
+    ensures shown { result ≢ 2 → IfSome (I.remaining input.old) (λ text. ShowsLines comments profile text (W.contents output.old) (W.contents output.new)) }
+    ensures front { IfSome (I.remaining input.old) (λ text. ShowsFront comments profile text (W.contents output.old) (W.contents output.new)) }
 {
     let mut line = Vec::new(alloc);
-    match answer_lines(alloc, profile, input, output, &mut line) {
+    match answer_lines(alloc, profile, comments, input, output, &mut line) {
         Ok(None) => 0,
         Ok(Some(number)) => match explain(number, why_none(&line), errors) {
             Ok(()) => 1,
@@ -135,13 +138,14 @@ fn tell<E: Write>(fault: Fault, errors: &mut E) {
 fn answer_lines<I: BufRead, W: Write>(
     alloc: Global,
     profile: Profile,
+    comments: bool,
     input: &mut I,
     output: &mut W,
     line: &mut Vec<u8>,
 ) -> Result<Option<u64>, Fault>
-    ensures bad { IfOk result (λ bad. IfSome (I.remaining input.old) (λ text. bad ≡ bad_line 1 (lines text))) }
-    ensures shown { OnOk result (IfSome (I.remaining input.old) (λ text. AnswersLines profile text (W.contents output.old) (W.contents output.new))) }
-    ensures front { IfSome (I.remaining input.old) (λ text. AnswersFront profile text (W.contents output.old) (W.contents output.new)) }
+    ensures bad { IfOk result (λ bad. IfSome (I.remaining input.old) (λ text. bad ≡ bad_line comments 1 (lines text))) }
+    ensures shown { OnOk result (IfSome (I.remaining input.old) (λ text. AnswersLines comments profile text (W.contents output.old) (W.contents output.new))) }
+    ensures front { IfSome (I.remaining input.old) (λ text. AnswersFront comments profile text (W.contents output.old) (W.contents output.new)) }
 {
     let mut session = new_session(alloc, profile)?;
     let mut shown = Vec::new(alloc);
@@ -151,7 +155,7 @@ fn answer_lines<I: BufRead, W: Write>(
             Ok(false) => return Ok(None),
             Err(error) => return Err(input_fault(error)),
         }
-        if is_blank(line) {
+        if passes(comments, line) {
             continue;
         }
         match call_of(alloc, line)? {
@@ -194,7 +198,14 @@ fn read_line<I: BufRead>(input: &mut I, line: &mut Vec<u8>) -> io::Result<bool>
     Ok(true)
 }
 
-/// Whether a line is passed over: it is empty, or begins with a number sign.
+/// Whether a line is passed over: it says nothing, and there may be comments.
+fn passes(comments: bool, line: &[u8]) -> bool
+    ensures { result ≡ passes comments line.now }
+{
+    comments && is_blank(line)
+}
+
+/// Whether a line says nothing: it is empty, or begins with a number sign.
 fn is_blank(line: &[u8]) -> bool
     ensures { result ≡ is_blank line.now }
 {

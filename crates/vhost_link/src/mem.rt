@@ -96,6 +96,7 @@ impl MemLink {
         requires room { 0 < length room.old }
         requires list { handles.old.items ≡ [] }
         requires places { MAX_ATTACHED_FD_ENTRIES ≤ vec_capacity handles.old }
+        ensures count { result ≤ length room.new }
         ensures got { self.old.sent ≡ carrying handles.new.items (take result room.new) ++ self.new.sent }
         ensures rest { self.new ≡ record self.old { sent = self.new.sent } }
         ensures end { result ≡ 0 → self.old.sent ≡ [] }

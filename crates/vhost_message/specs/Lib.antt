@@ -5,6 +5,7 @@ pub mod Reconnect
 pub mod IoError
 pub mod Codes
 pub mod FrontendReq
+pub mod HeardReq
 pub mod BackendReq
 pub mod Header
 pub mod MsgHeader

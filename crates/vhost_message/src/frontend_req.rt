@@ -1,123 +1,75 @@
 //! The requests of a frontend.
 
-ghost use Rattle.std.specs.Prelude.{◌≡◌};
-ghost use Rattle.vhost_message.specs.FrontendReq.{request_number, request_of, any_request, request_at, is_named, request_of-request_number, request_number-request_of, any-is_named, request_number-any};
+ghost use Rattle.std.specs.Prelude.{◌≡◌, true};
+ghost use Rattle.vhost_message.specs.FrontendReq.{frontend_request_number, frontend_request_of, frontend_request_at, frontend_request_of-number, frontend_request_number-of};
 
+use crate::heard_req::HeardReq;
 use crate::req::Req;
 
-/// What a frontend asks of a backend, by the number in the header of the message.
+/// What a frontend asks of a backend, by the number in the header of the message (vhost-user specification, "Front-end
+/// message types").
 #[derive(Clone, Copy, Debug, PartialEq, Eq, PartialOrd, Ord)]
 pub enum FrontendReq {
     // generated from protocol/requests.toml: variants
-    GET_FEATURES,
-    SET_FEATURES,
-    SET_OWNER,
-    RESET_OWNER,
-    SET_MEM_TABLE,
-    SET_LOG_BASE,
-    SET_LOG_FD,
-    SET_VRING_NUM,
-    SET_VRING_ADDR,
-    SET_VRING_BASE,
-    GET_VRING_BASE,
-    SET_VRING_KICK,
-    SET_VRING_CALL,
-    SET_VRING_ERR,
-    GET_PROTOCOL_FEATURES,
-    SET_PROTOCOL_FEATURES,
-    GET_QUEUE_NUM,
-    SET_VRING_ENABLE,
-    SEND_RARP,
-    NET_SET_MTU,
-    SET_BACKEND_REQ_FD,
-    IOTLB_MSG,
-    SET_VRING_ENDIAN,
-    GET_CONFIG,
-    SET_CONFIG,
-    CREATE_CRYPTO_SESSION,
-    CLOSE_CRYPTO_SESSION,
-    POSTCOPY_ADVISE,
-    POSTCOPY_LISTEN,
-    POSTCOPY_END,
-    GET_INFLIGHT_FD,
-    SET_INFLIGHT_FD,
-    GPU_SET_SOCKET,
-    RESET_DEVICE,
-    VRING_KICK,
-    GET_MAX_MEM_SLOTS,
-    ADD_MEM_REG,
-    REM_MEM_REG,
-    SET_STATUS,
-    GET_STATUS,
-    GET_SHARED_OBJECT,
-    SET_DEVICE_STATE_FD,
-    CHECK_DEVICE_STATE,
-    GET_SHMEM_CONFIG,
+    GET_FEATURES = 1,
+    SET_FEATURES = 2,
+    SET_OWNER = 3,
+    RESET_OWNER = 4,
+    SET_MEM_TABLE = 5,
+    SET_LOG_BASE = 6,
+    SET_LOG_FD = 7,
+    SET_VRING_NUM = 8,
+    SET_VRING_ADDR = 9,
+    SET_VRING_BASE = 10,
+    GET_VRING_BASE = 11,
+    SET_VRING_KICK = 12,
+    SET_VRING_CALL = 13,
+    SET_VRING_ERR = 14,
+    GET_PROTOCOL_FEATURES = 15,
+    SET_PROTOCOL_FEATURES = 16,
+    GET_QUEUE_NUM = 17,
+    SET_VRING_ENABLE = 18,
+    SEND_RARP = 19,
+    NET_SET_MTU = 20,
+    SET_BACKEND_REQ_FD = 21,
+    IOTLB_MSG = 22,
+    SET_VRING_ENDIAN = 23,
+    GET_CONFIG = 24,
+    SET_CONFIG = 25,
+    CREATE_CRYPTO_SESSION = 26,
+    CLOSE_CRYPTO_SESSION = 27,
+    POSTCOPY_ADVISE = 28,
+    POSTCOPY_LISTEN = 29,
+    POSTCOPY_END = 30,
+    GET_INFLIGHT_FD = 31,
+    SET_INFLIGHT_FD = 32,
+    GPU_SET_SOCKET = 33,
+    RESET_DEVICE = 34,
+    VRING_KICK = 35,
+    GET_MAX_MEM_SLOTS = 36,
+    ADD_MEM_REG = 37,
+    REM_MEM_REG = 38,
+    SET_STATUS = 39,
+    GET_STATUS = 40,
+    GET_SHARED_OBJECT = 41,
+    SET_DEVICE_STATE_FD = 42,
+    CHECK_DEVICE_STATE = 43,
+    GET_SHMEM_CONFIG = 44,
     // end
-    /// A number that is no request's. It is heard under some profiles, and served by nobody.
-    OTHER(u32),
 }
 
 impl From<FrontendReq> for u32 {
-    ghost from_gives = { λ code number. number ≡ request_number code };
+    ghost from_gives = { λ code number. number ≡ frontend_request_number code };
 
     fn from(code: FrontendReq) -> u32 {
-        match code {
-            // generated from protocol/requests.toml: numbers
-            FrontendReq::GET_FEATURES => 1,
-            FrontendReq::SET_FEATURES => 2,
-            FrontendReq::SET_OWNER => 3,
-            FrontendReq::RESET_OWNER => 4,
-            FrontendReq::SET_MEM_TABLE => 5,
-            FrontendReq::SET_LOG_BASE => 6,
-            FrontendReq::SET_LOG_FD => 7,
-            FrontendReq::SET_VRING_NUM => 8,
-            FrontendReq::SET_VRING_ADDR => 9,
-            FrontendReq::SET_VRING_BASE => 10,
-            FrontendReq::GET_VRING_BASE => 11,
-            FrontendReq::SET_VRING_KICK => 12,
-            FrontendReq::SET_VRING_CALL => 13,
-            FrontendReq::SET_VRING_ERR => 14,
-            FrontendReq::GET_PROTOCOL_FEATURES => 15,
-            FrontendReq::SET_PROTOCOL_FEATURES => 16,
-            FrontendReq::GET_QUEUE_NUM => 17,
-            FrontendReq::SET_VRING_ENABLE => 18,
-            FrontendReq::SEND_RARP => 19,
-            FrontendReq::NET_SET_MTU => 20,
-            FrontendReq::SET_BACKEND_REQ_FD => 21,
-            FrontendReq::IOTLB_MSG => 22,
-            FrontendReq::SET_VRING_ENDIAN => 23,
-            FrontendReq::GET_CONFIG => 24,
-            FrontendReq::SET_CONFIG => 25,
-            FrontendReq::CREATE_CRYPTO_SESSION => 26,
-            FrontendReq::CLOSE_CRYPTO_SESSION => 27,
-            FrontendReq::POSTCOPY_ADVISE => 28,
-            FrontendReq::POSTCOPY_LISTEN => 29,
-            FrontendReq::POSTCOPY_END => 30,
-            FrontendReq::GET_INFLIGHT_FD => 31,
-            FrontendReq::SET_INFLIGHT_FD => 32,
-            FrontendReq::GPU_SET_SOCKET => 33,
-            FrontendReq::RESET_DEVICE => 34,
-            FrontendReq::VRING_KICK => 35,
-            FrontendReq::GET_MAX_MEM_SLOTS => 36,
-            FrontendReq::ADD_MEM_REG => 37,
-            FrontendReq::REM_MEM_REG => 38,
-            FrontendReq::SET_STATUS => 39,
-            FrontendReq::GET_STATUS => 40,
-            FrontendReq::GET_SHARED_OBJECT => 41,
-            FrontendReq::SET_DEVICE_STATE_FD => 42,
-            FrontendReq::CHECK_DEVICE_STATE => 43,
-            FrontendReq::GET_SHMEM_CONFIG => 44,
-            // end
-            FrontendReq::OTHER(number) => number,
-        }
+        code as u32
     }
 }
 
 impl TryFrom<u32> for FrontendReq {
     type Error = ();
 
-    ghost try_from_gives = { λ number code. code ≡ request_at number };
+    ghost try_from_gives = { λ number code. code ≡ frontend_request_at number };
 
     fn try_from(value: u32) -> Result<FrontendReq, ()> {
         match value {
@@ -173,21 +125,21 @@ impl TryFrom<u32> for FrontendReq {
 }
 
 impl Req for FrontendReq {
-    ghost number = { request_number };
+    ghost number = { frontend_request_number };
 
-    ghost code = { request_of };
+    ghost code = { frontend_request_of };
 
-    ghost any = { any_request };
+    ghost any = { frontend_request_of };
 
-    ghost named = { is_named };
+    ghost named = { λ _. true };
 
-    ghost code_of_number = { request_of-request_number };
+    ghost code_of_number = { λ code _. frontend_request_of-number code };
 
-    ghost number_of_code = { request_number-request_of };
+    ghost number_of_code = { frontend_request_number-of };
 
-    ghost number_of_any = { request_number-any };
+    ghost number_of_any = { frontend_request_number-of };
 
-    ghost any_of_code = { any-is_named };
+    ghost any_of_code = { λ _ _ is. is };
 
     fn number(self) -> u32 {
         self.into()
@@ -198,6 +150,6 @@ impl Req for FrontendReq {
     }
 
     fn any(n: u32) -> Option<FrontendReq> {
-        Some(FrontendReq::try_from(n).unwrap_or(FrontendReq::OTHER(n)))
+        FrontendReq::try_from(n).ok()
     }
 }

@@ -12,6 +12,7 @@ mod flags;
 mod frontend_req;
 mod header;
 pub mod header_bit;
+mod heard_req;
 mod io_error;
 mod limits;
 mod postcopy;
@@ -34,6 +35,7 @@ pub use flags::{
 };
 pub use frontend_req::FrontendReq;
 pub use header::VhostUserMsgHeader;
+pub use heard_req::HeardReq;
 pub use io_error::{HandlerResult, IoError};
 pub use limits::{
     MAX_ATTACHED_FD_ENTRIES, MAX_MEM_REGIONS, MAX_MSG_SIZE, MAX_MSG_TEXT, MEMORY_HEAD_SIZE,

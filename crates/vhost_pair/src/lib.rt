@@ -1,15 +1,8 @@
-//! A frontend and a handler joined over links in memory, in lockstep.
+//! A frontend and a backend joined in memory: each call of the one runs through the other. For tests of VMMs, and for tools that
+//! watch a migration. The backend channel has its own pair, and the recorder shares one among threads.
 #![tactic(auto)]
 
-mod begin;
-mod halt;
-mod joined;
-mod sides;
-mod ways;
-mod wire;
-
-pub use halt::{Halt, Stop};
-pub use joined::Joined;
 pub use vhost_frontend_core::{FrontendAnswer, FrontendCall, LogRegion, RegionInfo};
-pub use ways::{carry, copy};
-pub use wire::Wire;
+pub use vhost_joined::{Halt, Joined, Stop};
+pub use vhost_joined_reverse::{JoinedReverse, ReverseCall};
+pub use vhost_recorder::{Entry, Log, Receipt, Recorded, Recorder, Share};

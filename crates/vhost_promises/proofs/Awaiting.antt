@@ -8,7 +8,7 @@ use Rattle.vhost_protocol.specs.declared.asked.Awaited.TheVariants.{Ack, Nobody,
 use Rattle.vhost_protocol.specs.declared.asked.Shape.{Shape}
 use Rattle.vhost_protocol.specs.declared.asked.Shape.TheVariants as shape
 use Rattle.vhost_link.specs.Law.{Event}
-use Rattle.vhost_endpoint.specs.Talk.{State}
+use Rattle.vhost_connection.specs.Talk.{State}
 use Rattle.vhost_frontend_core.specs.Asking.{AsksWithRoom}
 use Rattle.vhost_frontend_core.specs.Asking.Asks.{goes}
 use Rattle.vhost_frontend_core.specs.Asking.AsksWithRoom.{roomy}

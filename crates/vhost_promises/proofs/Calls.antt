@@ -12,11 +12,11 @@ use Rattle.vhost_protocol.specs.Split.{Splits}
 use Rattle.vhost_protocol.specs.Stream.{Cell, Item, items, bytes, first_handles, has_some, is_shorter}
 use Rattle.vhost_link.specs.Law.{Event, Move, move, nothing}
 use Rattle.vhost_link.specs.Law.Moved.{still}
-use Rattle.vhost_endpoint.specs.Pass.{sends, receives}
-use Rattle.vhost_endpoint.specs.Talk.{State, Serves, Talks, Never, Trouble, has_moved}
-use Rattle.vhost_endpoint.specs.Talk.Trouble.{was_broken as trouble_broken, no_memory as trouble_memory, fault as trouble_fault}
-use Rattle.vhost_endpoint.specs.Hearing.{Fails}
-use Rattle.vhost_endpoint.specs.Hearing.Fails.{was_broken as fails_broken, no_memory as fails_memory, fault as fails_fault}
+use Rattle.vhost_connection.specs.Pass.{sends, receives}
+use Rattle.vhost_connection.specs.Talk.{State, Serves, Talks, Never, Trouble, has_moved}
+use Rattle.vhost_connection.specs.Talk.Trouble.{was_broken as trouble_broken, no_memory as trouble_memory, fault as trouble_fault}
+use Rattle.vhost_connection.specs.Hearing.{Fails}
+use Rattle.vhost_connection.specs.Hearing.Fails.{was_broken as fails_broken, no_memory as fails_memory, fault as fails_fault}
 use Rattle.vhost_promises.specs.Calls.{is_fault, is_io_fault, Exchanges, HasReason}
 use Rattle.vhost_promises.specs.Calls.HasReason.{was_broken, no_list, failed}
 use Rattle.vhost_promises.proofs.TwoCalls.{talks-both}

@@ -5,7 +5,7 @@ use Rattle.std.specs.Prelude.{◌⊎◌, ⊤, not, codes, if◌then◌else◌}
 use Rattle.vhost_message.specs.Bits.{has_bit}
 use Rattle.vhost_protocol.specs.Features.{PROTOCOL_FEATURES}
 use Rattle.std.specs.declared.alloc.Global.{Global}
-use Rattle.vhost_message.specs.declared.frontend_req.FrontendReq.TheVariants.{SET_OWNER}
+use Rattle.vhost_message.specs.declared.heard_req.HeardReq.TheVariants.{SET_OWNER}
 use Rattle.vhost_protocol.specs.AnswerTable.{answer}
 use Rattle.vhost_protocol.specs.Error.{Error, InvalidOperation}
 use Rattle.vhost_protocol.specs.FrontendCall.{Frontend, Nothing, Number, GetFeatures, SetOwner, new_frontend}
@@ -16,22 +16,22 @@ use Rattle.vhost_protocol.specs.Step.{Outcome}
 use Rattle.vhost_protocol.specs.Written.{U64}
 use Rattle.vhost_protocol.specs.declared.asked.Awaited.TheVariants.{Nobody, Reply}
 use Rattle.vhost_protocol.specs.declared.asked.Shape.TheVariants as shape
-use Rattle.vhost_message.specs.FrontendReq.{request_number}
+use Rattle.vhost_message.specs.HeardReq.{request_number}
 use Rattle.vhost_dummy_backend.specs.Dummy as dummy
 use Rattle.vhost_dummy_backend.specs.Dummy.{DummyGives, Does, refusal}
 use Rattle.vhost_link.specs.declared.cut.Cut.{Cut}
 use Rattle.vhost_link.specs.declared.plain.PlainHandle.{PlainHandle}
-use Rattle.vhost_pair.specs.Device.{Gives, opens_backend, opens_gpu}
+use Rattle.vhost_joined.specs.Device.{Gives, opens_backend, opens_gpu}
 use Rattle.vhost_frontend_core.specs.Values.{answer_of}
 use Rattle.vhost_frontend_core.specs.declared.values.answer.FrontendAnswer.{FrontendAnswer}
 use Rattle.vhost_frontend_core.specs.declared.values.call.FrontendCall.TheVariants as call
-use Rattle.vhost_pair.specs.Joined.{View, IsReady, Offers, Answers, Steps, StepsAll}
-use Rattle.vhost_pair.specs.Lockstep.{ArePlain, AreOffered, InLockstep, Lockstep}
-use Rattle.vhost_pair.specs.Sides.{as_view, fresh_parts}
-use Rattle.vhost_pair.specs.Text.{text_of}
-use Rattle.vhost_pair.specs.declared.halt.Halt.{Halt}
-use Rattle.vhost_pair.specs.declared.halt.Halt.TheVariants.{OutOfMemory}
-use Rattle.vhost_pair.specs.declared.halt.Stop.TheVariants.{Premise, Table}
+use Rattle.vhost_joined.specs.Joined.{View, IsReady, Offers, Answers, Steps, StepsAll}
+use Rattle.vhost_joined.specs.Lockstep.{ArePlain, AreOffered, InLockstep, Lockstep}
+use Rattle.vhost_joined.specs.Sides.{as_view, fresh_parts}
+use Rattle.vhost_joined.specs.Text.{text_of}
+use Rattle.vhost_joined.specs.declared.halt.Halt.{Halt}
+use Rattle.vhost_joined.specs.declared.halt.Halt.TheVariants.{OutOfMemory}
+use Rattle.vhost_joined.specs.declared.halt.Stop.TheVariants.{Premise, Table}
 use Rattle.vhost_promises.specs.Example.{Device, Claims, RefusesAgain, asking, serving, owner_request}
 
 -- the device's relation: a handle is copied as it is

@@ -12,8 +12,8 @@ use Rattle.vhost_protocol.specs.ReplySplit.{Received, reply_split}
 use Rattle.vhost_protocol.specs.Row.{always}
 use Rattle.vhost_protocol.specs.Stream.{Cell, has_some}
 use Rattle.vhost_link.specs.Law.{Event}
-use Rattle.vhost_endpoint.specs.Pass.{sends}
-use Rattle.vhost_endpoint.specs.Talk.{State, Serves}
+use Rattle.vhost_connection.specs.Pass.{sends}
+use Rattle.vhost_connection.specs.Talk.{State, Serves}
 use Rattle.vhost_gpu_backend_req.specs.Asking.{AsksCall, GoesOut, Takes, Unsent, read_as, unexpected}
 use Rattle.vhost_gpu_backend_req.specs.Asking.Asks.{unsent, asked_for}
 use Rattle.vhost_gpu_backend_req.specs.Asking.RecvsRecord.{heard, stopped}

@@ -10,11 +10,11 @@ use Rattle.vhost_protocol.specs.Split.{Message, Splits, split}
 use Rattle.vhost_protocol.specs.Stream.{Cell, heard}
 use Rattle.vhost_link.specs.Law.{Event, Move, nothing}
 use Rattle.vhost_link.specs.Law.Moved.{still}
-use Rattle.vhost_endpoint.specs.Pass.{receives, sends}
-use Rattle.vhost_endpoint.specs.Talk.{State, Talks, First, Trouble, has_moved}
-use Rattle.vhost_endpoint.specs.Talk.Trouble.{was_broken, no_memory, fault}
-use Rattle.vhost_endpoint.specs.Serving.{CallsMany, CallsUnless, HandlesOne, Runs}
-use Rattle.vhost_endpoint.specs.Serving.Breaks.{unread, unanswered}
+use Rattle.vhost_connection.specs.Pass.{receives, sends}
+use Rattle.vhost_connection.specs.Talk.{State, Talks, First, Trouble, has_moved}
+use Rattle.vhost_connection.specs.Talk.Trouble.{was_broken, no_memory, fault}
+use Rattle.vhost_connection.specs.Serving.{CallsMany, CallsUnless, HandlesOne, Runs}
+use Rattle.vhost_connection.specs.Serving.Breaks.{unread, unanswered}
 use Rattle.vhost_promises.specs.Faults.{MeetsFault, StaysBroken}
 use Rattle.vhost_promises.proofs.Unserved.{unserved, unserved-listed}
 

@@ -18,10 +18,10 @@ use Rattle.vhost_protocol.specs.Reverse.{Backend, ReverseAsked, Refuses, SharedO
 use Rattle.vhost_protocol.specs.Written.{ObjectName}
 use Rattle.vhost_protocol.specs.declared.asked.Awaited.{Awaited}
 use Rattle.vhost_link.specs.Law.{Event, Move}
-use Rattle.vhost_endpoint.specs.Hearing.{Fails}
-use Rattle.vhost_endpoint.specs.Hearing.Fails.{was_broken, no_memory, fault}
-use Rattle.vhost_endpoint.specs.Talk.{State, Never, Trouble}
-use Rattle.vhost_endpoint.specs.Talk.Trouble.{was_broken as trouble_broken, no_memory as trouble_memory, fault as trouble_fault}
+use Rattle.vhost_connection.specs.Hearing.{Fails}
+use Rattle.vhost_connection.specs.Hearing.Fails.{was_broken, no_memory, fault}
+use Rattle.vhost_connection.specs.Talk.{State, Never, Trouble}
+use Rattle.vhost_connection.specs.Talk.Trouble.{was_broken as trouble_broken, no_memory as trouble_memory, fault as trouble_fault}
 use Rattle.vhost_backend_req.specs.Asking.{Asks, AsksCall}
 use Rattle.vhost_backend_req.specs.Asking.Asks.{refused, unsent, asked_for}
 use Rattle.vhost_backend_req.specs.Channel.{Channel, backend_of}

@@ -12,7 +12,7 @@ use Rattle.vhost_link.specs.Ends.{Ends}
 use Rattle.vhost_link.specs.Law.{Move}
 use Rattle.vhost_link.specs.Mem.{event}
 use Rattle.vhost_link.specs.declared.plain.PlainHandle.{PlainHandle}
-use Rattle.vhost_endpoint.specs.Talk.{State, Serves, has_moved}
+use Rattle.vhost_connection.specs.Talk.{State, Serves, has_moved}
 use Rattle.vhost_frontend_core.specs.Asking.{AsksWithRoom}
 use Rattle.vhost_frontend_core.specs.Asking.Asks.{refuses, fails}
 use Rattle.vhost_frontend_core.specs.Asking.AsksWithRoom.{roomy, no_room}

@@ -1,7 +1,7 @@
 -- A fault of the link in a frontend's call.
 use Rattle.std.proofs.Common.{◌≡◌, ℕ, Bool, true, false, Option, Some, None, Result, Ok, Err, refl, sym, ap, ◌∙◌}
 use Rattle.std.specs.Prelude.{◌||◌, if◌then◌else◌}
-use Rattle.vhost_message.specs.FrontendReq.{request_number}
+use Rattle.vhost_message.specs.HeardReq.{request_number}
 use Rattle.vhost_message.specs.MsgHeader.{fields_of}
 use Rattle.vhost_message.specs.Header.{Header}
 use Rattle.vhost_message.specs.declared.error.Error as declared
@@ -11,10 +11,10 @@ use Rattle.vhost_protocol.specs.FrontendCall.{FrontendCall, Frontend, GetFeature
 use Rattle.vhost_protocol.specs.Written.{written_cells}
 use Rattle.vhost_protocol.specs.declared.asked.Awaited.{Awaited}
 use Rattle.vhost_link.specs.Law.{Event, Move, nothing}
-use Rattle.vhost_endpoint.specs.Hearing.{Fails}
-use Rattle.vhost_endpoint.specs.Hearing.Fails.{was_broken, no_memory, fault}
-use Rattle.vhost_endpoint.specs.Pass.{sends}
-use Rattle.vhost_endpoint.specs.Talk.{State, Serves, has_moved}
+use Rattle.vhost_connection.specs.Hearing.{Fails}
+use Rattle.vhost_connection.specs.Hearing.Fails.{was_broken, no_memory, fault}
+use Rattle.vhost_connection.specs.Pass.{sends}
+use Rattle.vhost_connection.specs.Talk.{State, Serves, has_moved}
 use Rattle.vhost_frontend.specs.Whole.{Whole}
 use Rattle.vhost_frontend.specs.Whole.Calls.{ended, answered}
 use Rattle.vhost_frontend_core.specs.Asking as core

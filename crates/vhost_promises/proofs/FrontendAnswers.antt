@@ -16,8 +16,8 @@ use Rattle.vhost_protocol.specs.Reverse.{ReverseCall, Sends, of_number, reverse_
 use Rattle.vhost_protocol.specs.Stream.{Cell, has_some}
 use Rattle.vhost_protocol.specs.Written.{Written}
 use Rattle.vhost_link.specs.Law.{Event}
-use Rattle.vhost_endpoint.specs.Asking.{GoesOut, is_known_by}
-use Rattle.vhost_endpoint.specs.Talk.{State}
+use Rattle.vhost_connection.specs.Asking.{GoesOut, is_known_by}
+use Rattle.vhost_connection.specs.Talk.{State}
 use Rattle.vhost_backend_req.specs.Asking.{Asks, AsksCall, Takes}
 use Rattle.vhost_backend_req.specs.Asking.Asks.{refused, unsent, asked_for}
 use Rattle.vhost_backend_req.specs.Asking.RecvsNumber.{heard, stopped}

@@ -4,7 +4,7 @@ use Rattle.std.specs.Prelude.{⊤, if◌then◌else◌}
 use Rattle.vhost_message.specs.declared.cause.IoCause.{IoCause}
 use Rattle.vhost_message.specs.declared.errno.TheConstants.{ENOMEM}
 use Rattle.vhost_message.specs.declared.cause.IoCause.TheVariants.{Raw}
-use Rattle.vhost_message.specs.declared.frontend_req.FrontendReq.{FrontendReq}
+use Rattle.vhost_message.specs.declared.heard_req.HeardReq.{HeardReq}
 use Rattle.vhost_protocol.specs.Codes.{allows_handles}
 use Rattle.vhost_protocol.specs.Error.{Error, OutOfMemory}
 use Rattle.vhost_protocol.specs.FrontendCall as calls
@@ -22,11 +22,11 @@ use Rattle.vhost_link.specs.declared.plain.PlainHandle.{PlainHandle}
 use Rattle.vhost_frontend_core.specs.Values.{call_of}
 use Rattle.vhost_frontend_core.specs.declared.values.answer.FrontendAnswer.{FrontendAnswer}
 use Rattle.vhost_frontend_core.specs.declared.values.call.FrontendCall.{FrontendCall}
-use Rattle.vhost_pair.specs.Device.{Gives, opens_backend, opens_gpu}
-use Rattle.vhost_pair.specs.Joined as joined
-use Rattle.vhost_pair.specs.Joined.{View, Cuts, IsReady, Passes, PassesBoth, Stops, Exchanges, Moves, ends, is_over, stop_after}
-use Rattle.vhost_pair.specs.Lockstep.{KeepsAll, Lockstep}
-use Rattle.vhost_pair.specs.declared.halt.Stop.TheVariants.{Premise, Table}
+use Rattle.vhost_joined.specs.Device.{Gives, opens_backend, opens_gpu}
+use Rattle.vhost_joined.specs.Joined as joined
+use Rattle.vhost_joined.specs.Joined.{View, Cuts, IsReady, Passes, PassesBoth, Stops, Exchanges, Moves, ends, is_over, stop_after}
+use Rattle.vhost_joined.specs.Lockstep.{KeepsAll, Lockstep}
+use Rattle.vhost_joined.specs.declared.halt.Stop.TheVariants.{Premise, Table}
 use Rattle.vhost_promises.specs.Joined.{WantsMemory, of_asking, of_serving, of_handler}
 
 drop-none : {A : Type 0} (n : ℕ) → drop {A = A} n [] ≡ []
@@ -82,7 +82,7 @@ module _ {Dev : Type 0} (gives : Gives Dev) (bit : Bool) where
     none-back some = absurd (cc (sym (ap (λ (xs : List (Cell PlainHandle)). has_some xs) ready.in_step.no_reply) ∙ some))
 
     -- the handler wanted memory, which its device or a handle's opening answered
-    wants-behind : (new : View Dev) (w : Written FrontendReq PlainHandle) (heard : Result (Message FrontendReq PlainHandle) Error) (answer : Result ⊤ Error) (came : List (Cell PlainHandle)) → heard ≡ Ok (read_as w) → answer ≡ Err OutOfMemory
+    wants-behind : (new : View Dev) (w : Written HeardReq PlainHandle) (heard : Result (Message HeardReq PlainHandle) Error) (answer : Result ⊤ Error) (came : List (Cell PlainHandle)) → heard ≡ Ok (read_as w) → answer ≡ Err OutOfMemory
         → run.Handles heard_in allows_handles (λ (s : Session). s.failed) (MeetsRow gives opens_backend opens_gpu) old.session old.device heard answer came new.session new.device → WantsMemory gives new
     wants-behind new w heard answer came own is handles =
         let met : MeetsRow gives opens_backend opens_gpu old.session old.device (read_as w) answer came new.session new.device =
@@ -90,7 +90,7 @@ module _ {Dev : Type 0} (gives : Gives Dev) (bit : Bool) where
         of_handler old w met.0 met.1 (sym met.2 ∙ is)
 
     module _ (new : View Dev) (call : calls.FrontendCall PlainHandle) (result : Result (Value PlainHandle) Error) (premise : new.stopped ≡ Some Premise) (asking : old.asking.script ≡ []) (serving : old.serving.script ≡ []) where
-      by-handler : (w : Written FrontendReq PlainHandle) (left came : List (Cell PlainHandle)) (answer : Option (Result ⊤ Error)) → joined.Serves gives old new w left came answer → stop_after new.frontend new.session (ends call) answer false new.reply.bytes ≡ Some Premise → WantsMemory gives new
+      by-handler : (w : Written HeardReq PlainHandle) (left came : List (Cell PlainHandle)) (answer : Option (Result ⊤ Error)) → joined.Serves gives old new w left came answer → stop_after new.frontend new.session (ends call) answer false new.reply.bytes ≡ Some Premise → WantsMemory gives new
       by-handler w left came _ (joined.full some came' session device link on_way) stops = absurd (none-there some)
       by-handler w left came _ (joined.unread c read s came' session device on_way) stops = of_serving (hungry old.budget c old.serving new.serving s serving)
       by-handler w left came _ (joined.unanswered c m answer reply after count s first met short front session) stops =

@@ -9,10 +9,10 @@ use Rattle.vhost_protocol.specs.Split.{Message, Splits, split}
 use Rattle.vhost_protocol.specs.Stream.{Cell, Item, Byte, End, items, heard}
 use Rattle.vhost_link.specs.Mem.{event, HandsFront}
 use Rattle.vhost_link.specs.declared.plain.PlainHandle.{PlainHandle}
-use Rattle.vhost_endpoint.specs.Hearing.{Hears}
-use Rattle.vhost_endpoint.specs.Requests.{Replies}
-use Rattle.vhost_endpoint.specs.Serving.{Handled, HandlesOne}
-use Rattle.vhost_endpoint.specs.Memory.{stream, TalksLaw}
+use Rattle.vhost_connection.specs.Hearing.{Hears}
+use Rattle.vhost_connection.specs.Requests.{Replies}
+use Rattle.vhost_connection.specs.Serving.{Handled, HandlesOne}
+use Rattle.vhost_connection.specs.Memory.{stream, TalksLaw}
 use Rattle.vhost_promises.specs.Runs.{answer_of_link}
 use Rattle.vhost_promises.specs.Streams.{Near, FindsNone}
 use Rattle.vhost_promises.proofs.Whole.{breaks-of-link}

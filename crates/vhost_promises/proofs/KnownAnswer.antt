@@ -1,10 +1,10 @@
 -- A frontend's call whose request and whose reply are known.
 use Rattle.std.proofs.lemmas.Option.{same_Some}
 use Rattle.std.proofs.Common.{◌≡◌, Bool, true, false, List, ◌++◌, Option, Some, Result, Ok, Err, refl, sym, ap, subst, ◌∙◌}
-use Rattle.vhost_message.specs.FrontendReq.{request_number}
+use Rattle.vhost_message.specs.HeardReq.{request_number}
 use Rattle.vhost_message.specs.MsgHeader.{fields_of}
 use Rattle.vhost_message.specs.declared.error.Error as declared
-use Rattle.vhost_message.specs.declared.frontend_req.FrontendReq.{FrontendReq}
+use Rattle.vhost_message.specs.declared.heard_req.HeardReq.{HeardReq}
 use Rattle.vhost_protocol.specs.AnswerTable.{Answered, answered}
 use Rattle.vhost_protocol.specs.Ask.{Sends, ask}
 use Rattle.vhost_protocol.specs.Error.{Error}
@@ -18,11 +18,11 @@ use Rattle.vhost_protocol.specs.declared.asked.Shape.{Shape}
 use Rattle.vhost_link.specs.Ends.{Ends}
 use Rattle.vhost_link.specs.Law.{Event}
 use Rattle.vhost_link.specs.Mem.{event}
-use Rattle.vhost_endpoint.specs.Memory.{stream, TalksLaw}
+use Rattle.vhost_connection.specs.Memory.{stream, TalksLaw}
 use Rattle.vhost_link.specs.declared.plain.PlainHandle.{PlainHandle}
-use Rattle.vhost_endpoint.specs.Hearing.{Fails}
-use Rattle.vhost_endpoint.specs.Hearing.Fails.{was_broken, no_memory, fault}
-use Rattle.vhost_endpoint.specs.Talk.{State}
+use Rattle.vhost_connection.specs.Hearing.{Fails}
+use Rattle.vhost_connection.specs.Hearing.Fails.{was_broken, no_memory, fault}
+use Rattle.vhost_connection.specs.Talk.{State}
 use Rattle.vhost_frontend.specs.Whole.{Calls}
 use Rattle.vhost_frontend.specs.Whole.Calls.{ended, answered as took}
 use Rattle.vhost_frontend_core.specs.Asking.{Asks, AsksWithRoom}
@@ -54,14 +54,14 @@ abbrev pub Outcome : Type 0
 Outcome = Option (Answered PlainHandle) × List (Cell PlainHandle)
 
 -- It was answered so.
-pub record Answers {A : Type 0} (value : A → Value PlainHandle) (request : Written FrontendReq PlainHandle) (outcome : Result (Value PlainHandle) Error) (f' : Frontend) (rest : List (Cell PlainHandle))
+pub record Answers {A : Type 0} (value : A → Value PlainHandle) (request : Written HeardReq PlainHandle) (outcome : Result (Value PlainHandle) Error) (f' : Frontend) (rest : List (Cell PlainHandle))
     (old : Near) (result : Result A declared.Error) (new : Near) (g : Frontend) : Type 0 where
   pub answered : valued value result ≡ outcome
   pub written : new.link.sent ≡ old.link.sent ++ written_cells request_number request
   pub left : stream new ≡ rest
   pub session : g ≡ f'
 
-module _ {A : Type 0} (law : TalksLaw) (call : FrontendCall PlainHandle) (value : A → Value PlainHandle) (f f' : Frontend) (request : Written FrontendReq PlainHandle) (shape : Shape)
+module _ {A : Type 0} (law : TalksLaw) (call : FrontendCall PlainHandle) (value : A → Value PlainHandle) (f f' : Frontend) (request : Written HeardReq PlainHandle) (shape : Shape)
     (outcome : Result (Value PlainHandle) Error) (cells left : List (Cell PlainHandle)) (sent_so : ask f call ≡ Sends request (Reply shape) f)
     (answered_so : take call (Reply shape) (head_of request_number request) f cells ≡ (Some (answered f' outcome), left)) where
   -- the request went out, and nothing was received

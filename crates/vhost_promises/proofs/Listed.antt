@@ -14,7 +14,7 @@ use Rattle.vhost_protocol.specs.IoError.{seen_io}
 use Rattle.vhost_protocol.specs.Reverse.{Backend, ReverseAsked, Refuses, SharedObjectAdd, sends_unless}
 use Rattle.vhost_protocol.specs.Written.{ObjectName}
 use Rattle.vhost_link.specs.Law.{Event}
-use Rattle.vhost_endpoint.specs.Talk.{State}
+use Rattle.vhost_connection.specs.Talk.{State}
 use Rattle.vhost_backend_req.specs.Asking.{AsksCall}
 use Rattle.vhost_backend_req.specs.Channel.{Channel, backend_of}
 use Rattle.vhost_promises.specs.Asks.{IsNotDone}

@@ -23,9 +23,9 @@ use Rattle.vhost_protocol.specs.declared.asked.Awaited.{Awaited}
 use Rattle.vhost_protocol.specs.declared.asked.Awaited.TheVariants.{Reply}
 use Rattle.vhost_protocol.specs.declared.asked.Shape.TheVariants as shape
 use Rattle.vhost_link.specs.Law.{Event}
-use Rattle.vhost_endpoint.specs.Hearing.{Fails}
-use Rattle.vhost_endpoint.specs.Hearing.Fails.{was_broken, no_memory, fault}
-use Rattle.vhost_endpoint.specs.Talk.{State}
+use Rattle.vhost_connection.specs.Hearing.{Fails}
+use Rattle.vhost_connection.specs.Hearing.Fails.{was_broken, no_memory, fault}
+use Rattle.vhost_connection.specs.Talk.{State}
 use Rattle.vhost_frontend.specs.Whole.{Whole}
 use Rattle.vhost_frontend.specs.Whole.Calls.{ended, answered as replied}
 use Rattle.vhost_frontend_core.specs.Asking as core

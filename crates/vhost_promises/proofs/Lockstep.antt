@@ -3,18 +3,18 @@ use Rattle.std.proofs.Common.{◌≡◌, ℕ, List, ◌++◌, Bool, Some, None, 
 use Rattle.vhost_link.specs.declared.cut.Cut.{Cut}
 use Rattle.vhost_frontend_core.specs.declared.values.answer.FrontendAnswer.{FrontendAnswer}
 use Rattle.vhost_frontend_core.specs.declared.values.call.FrontendCall.{FrontendCall}
-use Rattle.vhost_pair.specs.Device.{Gives}
-use Rattle.vhost_pair.specs.Joined.{View}
-use Rattle.vhost_pair.specs.Lockstep.{InLockstep, Lockstep}
-use Rattle.vhost_pair.specs.Sides.{as_view, fresh_parts}
-use Rattle.vhost_pair.specs.declared.halt.Stop.TheVariants.{Premise}
+use Rattle.vhost_joined.specs.Device.{Gives}
+use Rattle.vhost_joined.specs.Joined.{View}
+use Rattle.vhost_joined.specs.Lockstep.{InLockstep, Lockstep}
+use Rattle.vhost_joined.specs.Sides.{as_view, fresh_parts}
+use Rattle.vhost_joined.specs.declared.halt.Stop.TheVariants.{Premise}
 use Rattle.vhost_promises.specs.Joined.{AnswersFresh, AnswersFreshBack}
 use Rattle.vhost_message.specs.declared.io_error.IoError.{IoError}
 use Rattle.vhost_backend_req.specs.declared.call.ReverseCall.{ReverseCall}
 use Rattle.vhost_link.specs.declared.plain.PlainHandle.{PlainHandle}
-use Rattle.vhost_pair_reverse.specs.Joined as back
-use Rattle.vhost_pair_reverse.specs.Lockstep as back_lockstep
-use Rattle.vhost_pair_reverse.specs.Sides as back_sides
+use Rattle.vhost_joined_reverse.specs.Joined as back
+use Rattle.vhost_joined_reverse.specs.Lockstep as back_lockstep
+use Rattle.vhost_joined_reverse.specs.Sides as back_sides
 
 -- in lockstep from two new sides, unless a premise failed, is a run of the definitions
 pub fresh-run : {Dev : Type 0} (gives : Gives Dev) (bit : Bool) (queues budget : ℕ) (device : Dev) (asking serving : List Cut) (old new : View Dev) (calls : List FrontendCall) (before after answers : List FrontendAnswer)

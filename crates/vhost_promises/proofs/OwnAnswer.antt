@@ -1,7 +1,7 @@
 -- A call that succeeded in one turn has its own answer.
 use Rattle.std.proofs.Common.{◌≡◌, Result, Ok, Err, IfOk, subst}
 use Rattle.vhost_message.specs.declared.error.Error as declared
-use Rattle.vhost_frontend_types.specs.declared.error.Error as device
+use Rattle.vhost_backend.specs.declared.error.Error as device
 use Rattle.vhost_protocol.specs.FrontendCall.{FrontendCall, Value}
 use Rattle.vhost_link.specs.Law.{Event}
 use Rattle.vhost_frontend_core.specs.Asking.Asks.{goes}

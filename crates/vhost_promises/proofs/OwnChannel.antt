@@ -3,8 +3,8 @@ use Rattle.std.proofs.Common.{◌≡◌, ℕ, [], ◌∷◌, List, Result, Ok, E
 use Rattle.std.specs.Prelude.{⊤, not}
 use Rattle.vhost_message.specs.declared.cause.IoCause.{IoCause}
 use Rattle.vhost_message.specs.declared.error.Error as declared
-use Rattle.vhost_message.specs.declared.frontend_req.FrontendReq.{FrontendReq}
-use Rattle.vhost_message.specs.declared.frontend_req.FrontendReq.TheVariants.{SET_BACKEND_REQ_FD}
+use Rattle.vhost_message.specs.declared.heard_req.HeardReq.{HeardReq}
+use Rattle.vhost_message.specs.declared.heard_req.HeardReq.TheVariants.{SET_BACKEND_REQ_FD}
 use Rattle.vhost_protocol.specs.Answered.{calls}
 use Rattle.vhost_protocol.specs.Codes.{allows_handles}
 use Rattle.vhost_protocol.specs.DeviceCall.{Call, Answer, SetBackendReqFd}
@@ -19,11 +19,11 @@ use Rattle.vhost_protocol.proofs.SettleLaws.{settled-answer}
 use Rattle.vhost_protocol.specs.Step.{Outcome, Refusal, Step, OpensBackend, acknowledged, silently, ◌>>=◌, ◌>>◌}
 use Rattle.vhost_link.specs.Law.{Event}
 use Rattle.vhost_link.specs.declared.handle.Kind.{Kind}
-use Rattle.vhost_endpoint.specs.Talk.{State}
+use Rattle.vhost_connection.specs.Talk.{State}
 use Rattle.vhost_backend_req.specs.declared.backend.Backend.{Backend}
 use Rattle.vhost_gpu_backend_req.specs.declared.backend.GpuBackend.{GpuBackend}
-use Rattle.vhost_serving.specs.Opening.{OpensAsBackend, OpensAsGpu}
-use Rattle.vhost_serving.specs.Serving.{HandlesOne, fitting}
+use Rattle.vhost_backend_req_handler.specs.Opening.{OpensAsBackend, OpensAsGpu}
+use Rattle.vhost_backend_req_handler.specs.Serving.{HandlesOne, fitting}
 use Rattle.vhost_promises.specs.Opening.{GivenItsOwn, OpensItsOwn}
 
 -- the one element of a list is all of it
@@ -33,7 +33,7 @@ only-one e (y ∷ []) is = cc is
 only-one e (y ∷ z ∷ xs) is = absurd (cc is)
 
 module _ {L H Dev : Type 0} (opens : L → H → Result L IoCause → Type 0) (kinds : H → Result Kind IoCause → Type 0) (gives : Dev → (c : Call H (Backend L H) (GpuBackend L H)) → Answer c → Dev → Type 0) (budget : ℕ)
-    (s : Session) (m : Message FrontendReq H) (d d' : Dev) (o : Outcome H) where
+    (s : Session) (m : Message HeardReq H) (d d' : Dev) (o : Outcome H) where
   abbrev Followed : Step H (Backend L H) (GpuBackend L H) → Type 0
   Followed step = Follows (fitting gives) (λ h c. OpensAsBackend opens kinds budget h c) (λ h c. OpensAsGpu opens kinds budget h c) s d step o d'
 

@@ -1,11 +1,11 @@
 -- A frontend reads the features of a device whose reply is known.
 use Rattle.std.proofs.lemmas.Option.{same_Some}
 use Rattle.std.proofs.Common.{◌≡◌, ℕ, Bool, true, false, List, [], ◌++◌, Option, Some, Result, Ok, Err, refl, sym, ap, subst, ◌∙◌}
-use Rattle.vhost_message.specs.FrontendReq.{request_number}
+use Rattle.vhost_message.specs.HeardReq.{request_number}
 use Rattle.vhost_message.specs.MsgHeader.{fields_of}
 use Rattle.vhost_message.specs.declared.error.Error as declared
-use Rattle.vhost_message.specs.declared.frontend_req.FrontendReq.{FrontendReq}
-use Rattle.vhost_message.specs.declared.frontend_req.FrontendReq.TheVariants.{GET_FEATURES}
+use Rattle.vhost_message.specs.declared.heard_req.HeardReq.{HeardReq}
+use Rattle.vhost_message.specs.declared.heard_req.HeardReq.TheVariants.{GET_FEATURES}
 use Rattle.vhost_protocol.specs.AnswerTable.{Answered, answered}
 use Rattle.vhost_protocol.specs.Ask.{ask}
 use Rattle.vhost_protocol.specs.Error.{Error}
@@ -20,11 +20,11 @@ use Rattle.vhost_protocol.specs.declared.asked.Shape.TheVariants as shape
 use Rattle.vhost_link.specs.Ends.{Ends}
 use Rattle.vhost_link.specs.Law.{Event}
 use Rattle.vhost_link.specs.Mem.{event}
-use Rattle.vhost_endpoint.specs.Memory.{stream, TalksLaw}
+use Rattle.vhost_connection.specs.Memory.{stream, TalksLaw}
 use Rattle.vhost_link.specs.declared.plain.PlainHandle.{PlainHandle}
-use Rattle.vhost_endpoint.specs.Hearing.{Fails}
-use Rattle.vhost_endpoint.specs.Hearing.Fails.{was_broken, no_memory, fault}
-use Rattle.vhost_endpoint.specs.Talk.{State}
+use Rattle.vhost_connection.specs.Hearing.{Fails}
+use Rattle.vhost_connection.specs.Hearing.Fails.{was_broken, no_memory, fault}
+use Rattle.vhost_connection.specs.Talk.{State}
 use Rattle.vhost_frontend.specs.Whole.{Whole}
 use Rattle.vhost_frontend.specs.Whole.Calls.{ended, answered as took}
 use Rattle.vhost_frontend_core.specs.Asking.{Asks}
@@ -49,7 +49,7 @@ fails-of-link event old between e new (no_memory b away same) = refl
 fails-of-link event old between e new (fault c m b fell none most spent few broken faulted kept) = cause-of-link c
 
 -- the request of a new frontend
-abbrev request : Written FrontendReq PlainHandle
+abbrev request : Written HeardReq PlainHandle
 request = record { request = GET_FEATURES; reply = false; need_reply = false; payload = Empty; handles = [] }
 
 -- it went out, and nothing was received

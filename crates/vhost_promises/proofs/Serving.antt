@@ -3,10 +3,10 @@ use Rattle.std.proofs.Common.{◌≡◌, true, false, List, [], ◌∷◌, ◌++
 use Rattle.std.specs.Global.{Global}
 use Rattle.std.specs.List.{list_any}
 use Rattle.std.specs.Prelude.{⊤, IfOk, Vec, not, codes}
-use Rattle.vhost_message.specs.FrontendReq.{request_number}
+use Rattle.vhost_message.specs.HeardReq.{request_number}
 use Rattle.vhost_message.specs.declared.error.Error as declared
-use Rattle.vhost_message.specs.declared.frontend_req.FrontendReq.{FrontendReq}
-use Rattle.vhost_message.specs.declared.frontend_req.FrontendReq.TheVariants.{GET_FEATURES, SET_OWNER}
+use Rattle.vhost_message.specs.declared.heard_req.HeardReq.{HeardReq}
+use Rattle.vhost_message.specs.declared.heard_req.HeardReq.TheVariants.{GET_FEATURES, SET_OWNER}
 use Rattle.vhost_protocol.specs.Codes.{allows_handles}
 use Rattle.vhost_protocol.specs.Error.{Error, InvalidOperation, seen_result}
 use Rattle.vhost_protocol.specs.Handler.{MeetsRow}
@@ -16,10 +16,10 @@ use Rattle.vhost_protocol.specs.Session.{Session, fresh, heard_in}
 use Rattle.vhost_protocol.specs.Split.{Message, split, split_after, split_body, body_outcome}
 use Rattle.vhost_protocol.specs.Stream.{Cell, Item, plain}
 use Rattle.vhost_link.specs.Mem.{event, HandsFront}
-use Rattle.vhost_endpoint.specs.Memory.{stream, TalksLaw}
+use Rattle.vhost_connection.specs.Memory.{stream, TalksLaw}
 use Rattle.vhost_link.specs.declared.plain.PlainHandle.{PlainHandle}
 use Rattle.vhost_dummy_backend.specs.Dummy.{DummyGives, Does, refusal}
-use Rattle.vhost_serving.specs.Serving.{fitting}
+use Rattle.vhost_backend_req_handler.specs.Serving.{fitting}
 use Rattle.vhost_promises.specs.Example.{Device, owner_request, serving}
 use Rattle.vhost_promises.specs.Runs.{WholeServed, answer_of_link}
 use Rattle.vhost_promises.specs.Served.{ServesThree, features_reply, three_requests}
@@ -28,12 +28,12 @@ use Rattle.vhost_promises.proofs.Claiming.{number_in, read}
 use Rattle.vhost_promises.proofs.Known.{cuts, none-handed}
 
 -- a message without a flag, a body or a handle
-abbrev pub asks : FrontendReq → Message FrontendReq PlainHandle
+abbrev pub asks : HeardReq → Message HeardReq PlainHandle
 asks r = record { request = r; reply = false; need_reply = false; body = []; handles = [] }
 
 module _ {B G : Type 0} (opens_backend : PlainHandle → Result B Error → Type 0) (opens_gpu : PlainHandle → Result G Error → Type 0) where
   -- the device's relation: a handle is copied as it is
-  abbrev pub Meets : Session → Device → Message FrontendReq PlainHandle → Result ⊤ Error → List (Cell PlainHandle) → Session → Device → Type 0
+  abbrev pub Meets : Session → Device → Message HeardReq PlainHandle → Result ⊤ Error → List (Cell PlainHandle) → Session → Device → Type 0
   Meets = MeetsRow (fitting (DummyGives {B = B} {G = G} (λ handle copy. copy ≡ Ok handle))) opens_backend opens_gpu
 
   -- the features are answered
@@ -78,13 +78,13 @@ module _ {B G : Type 0} (opens_backend : PlainHandle → Result B Error → Type
   -- ---- one call of a run
 
   -- The next message of the stream is this: it met its row, and the rest of the stream is left for the later calls.
-  pub record Next (s : Session) (d : Device) (m : Message FrontendReq PlainHandle) (answer : Result ⊤ Error) (written : List (Cell PlainHandle)) (s' : Session) (d' : Device) (rest : List (Cell PlainHandle)) (later : List (Item PlainHandle)) (left : List (Cell PlainHandle)) : Type 0 where
+  pub record Next (s : Session) (d : Device) (m : Message HeardReq PlainHandle) (answer : Result ⊤ Error) (written : List (Cell PlainHandle)) (s' : Session) (d' : Device) (rest : List (Cell PlainHandle)) (later : List (Item PlainHandle)) (left : List (Cell PlainHandle)) : Type 0 where
     pub meets : Meets s d m answer written s' d'
     pub hands : HandsFront rest later left
 
-  pub next : (before left rest : List (Cell PlainHandle)) (m : Message FrontendReq PlainHandle) (s s' : Session) (d d' : Device) (input now later : List (Item PlainHandle)) (answer : Result ⊤ Error) (written : List (Cell PlainHandle))
+  pub next : (before left rest : List (Cell PlainHandle)) (m : Message HeardReq PlainHandle) (s s' : Session) (d d' : Device) (input now later : List (Item PlainHandle)) (answer : Result ⊤ Error) (written : List (Cell PlainHandle))
       → split (heard_in s) allows_handles before ≡ (Ok m, rest) → HandsFront before input left → input ≡ now ++ later
-      → (heard : Result (Message FrontendReq PlainHandle) Error) → run.Hears heard_in allows_handles (λ (t : Session). t.failed) Meets s now heard
+      → (heard : Result (Message HeardReq PlainHandle) Error) → run.Hears heard_in allows_handles (λ (t : Session). t.failed) Meets s now heard
       → run.Handles heard_in allows_handles (λ (t : Session). t.failed) Meets s d heard answer written s' d' → Next s d m answer written s' d' rest later left
   next before left rest m s s' d d' input now later answer written is hands parts heard (cells, ended, all, splits) handles =
       let c = cuts (split (heard_in s) allows_handles) cells ended heard before left later splits (subst (λ xs. HandsFront before xs left) (parts ∙ ap (λ xs. xs ++ later) all) hands) in

@@ -18,13 +18,13 @@ use Rattle.vhost_link.specs.declared.cut.Cut.{Cut}
 use Rattle.vhost_link.specs.declared.plain.PlainHandle.{PlainHandle}
 use Rattle.vhost_backend_req.specs.declared.call.ReverseCall.{ReverseCall}
 use Rattle.vhost_backend_req.specs.declared.call.ReverseCall.TheVariants as call
-use Rattle.vhost_pair.specs.Text.{text_of}
-use Rattle.vhost_pair.specs.declared.halt.Halt.{Halt}
-use Rattle.vhost_pair.specs.declared.halt.Halt.TheVariants.{OutOfMemory}
-use Rattle.vhost_pair.specs.declared.halt.Stop.TheVariants.{Premise, Table}
-use Rattle.vhost_pair_reverse.specs.Joined.{View, IsReady, Answers, Steps, StepsAll}
-use Rattle.vhost_pair_reverse.specs.Lockstep.{InLockstep, Lockstep, RunsReverse}
-use Rattle.vhost_pair_reverse.specs.Sides.{as_view, fresh_parts}
+use Rattle.vhost_joined.specs.Text.{text_of}
+use Rattle.vhost_joined.specs.declared.halt.Halt.{Halt}
+use Rattle.vhost_joined.specs.declared.halt.Halt.TheVariants.{OutOfMemory}
+use Rattle.vhost_joined.specs.declared.halt.Stop.TheVariants.{Premise, Table}
+use Rattle.vhost_joined_reverse.specs.Joined.{View, IsReady, Answers, Steps, StepsAll}
+use Rattle.vhost_joined_reverse.specs.Lockstep.{InLockstep, Lockstep, RunsReverse}
+use Rattle.vhost_joined_reverse.specs.Sides.{as_view, fresh_parts}
 use Rattle.vhost_promises.specs.ExampleBack.{OneObjectGives, Shares, SharesAgain, add_reply, add_request, agreed, agreed_server, name, refused_number, taken_number, unserved}
 use Rattle.vhost_promises.specs.declared.example_back.OneObject.{OneObject}
 

@@ -1,10 +1,10 @@
 -- A frontend under Standard whose first request is refused by a reply without a body, and whose second is answered.
 use Rattle.std.proofs.Common.{◌≡◌, ℕ, false, List, [], ◌∷◌, ◌++◌, Some, Result, Ok, Err, refl, ap, subst, ◌∙◌}
-use Rattle.vhost_message.specs.FrontendReq.{request_number}
+use Rattle.vhost_message.specs.HeardReq.{request_number}
 use Rattle.vhost_message.specs.declared.error.Error as declared
 use Rattle.vhost_message.specs.declared.error.Error.TheVariants as code
-use Rattle.vhost_message.specs.declared.frontend_req.FrontendReq.{FrontendReq}
-use Rattle.vhost_message.specs.declared.frontend_req.FrontendReq.TheVariants.{GET_CONFIG, GET_FEATURES}
+use Rattle.vhost_message.specs.declared.heard_req.HeardReq.{HeardReq}
+use Rattle.vhost_message.specs.declared.heard_req.HeardReq.TheVariants.{GET_CONFIG, GET_FEATURES}
 use Rattle.vhost_protocol.specs.AnswerTable.{answered}
 use Rattle.vhost_protocol.specs.Ask.{Sends, ask}
 use Rattle.vhost_protocol.specs.Error.{BackendInternalError, seen}
@@ -17,7 +17,7 @@ use Rattle.vhost_protocol.specs.declared.asked.Awaited.TheVariants.{Reply}
 use Rattle.vhost_protocol.specs.declared.asked.Shape.TheVariants as shape
 use Rattle.vhost_protocol.specs.declared.profile.Profile.TheVariants.{Standard}
 use Rattle.vhost_link.specs.Mem.{event}
-use Rattle.vhost_endpoint.specs.Memory.{stream, TalksLaw}
+use Rattle.vhost_connection.specs.Memory.{stream, TalksLaw}
 use Rattle.vhost_link.specs.declared.plain.PlainHandle.{PlainHandle}
 use Rattle.vhost_frontend.specs.Whole.{Whole, WholeWithRoom}
 use Rattle.vhost_frontend_core.specs.Frontend.{endpoint_of, session_of}
@@ -37,10 +37,10 @@ zeros = 0 ∷ 0 ∷ 0 ∷ 0 ∷ 0 ∷ 0 ∷ 0 ∷ 0 ∷ []
 abbrev config_call : FrontendCall PlainHandle
 config_call = GetConfig 0 8 0 zeros
 
-abbrev config_written : Written FrontendReq PlainHandle
+abbrev config_written : Written HeardReq PlainHandle
 config_written = record { request = GET_CONFIG; reply = false; need_reply = false; payload = ConfigBytes (record { offset = 0; size = 8; flags = 0 }) zeros; handles = [] }
 
-abbrev features_written : Written FrontendReq PlainHandle
+abbrev features_written : Written HeardReq PlainHandle
 features_written = record { request = GET_FEATURES; reply = false; need_reply = false; payload = Empty; handles = [] }
 
 abbrev remembers : ℕ → Frontend

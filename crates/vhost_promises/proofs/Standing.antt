@@ -4,10 +4,10 @@ use Rattle.std.proofs.lemmas.List.{append-nil}
 use Rattle.std.specs.Global.{Global}
 use Rattle.std.specs.List.{list_any}
 use Rattle.std.specs.Prelude.{⊤, IfOk, Vec, not, codes}
-use Rattle.vhost_message.specs.FrontendReq.{request_number}
+use Rattle.vhost_message.specs.HeardReq.{request_number}
 use Rattle.vhost_message.specs.declared.error.Error as declared
-use Rattle.vhost_message.specs.declared.frontend_req.FrontendReq.{FrontendReq}
-use Rattle.vhost_message.specs.declared.frontend_req.FrontendReq.TheVariants.{SET_OWNER, OTHER}
+use Rattle.vhost_message.specs.declared.heard_req.HeardReq.{HeardReq}
+use Rattle.vhost_message.specs.declared.heard_req.HeardReq.TheVariants.{SET_OWNER, OTHER}
 use Rattle.vhost_protocol.specs.declared.profile.Profile.TheVariants.{Standard}
 use Rattle.vhost_protocol.specs.Codes.{allows_handles}
 use Rattle.vhost_protocol.specs.Error.{Error, InvalidOperation, seen_result}
@@ -19,7 +19,7 @@ use Rattle.vhost_protocol.specs.Step.{Outcome, with_ack}
 use Rattle.vhost_protocol.specs.Split.{Message, split, split_after, split_body, body_outcome}
 use Rattle.vhost_protocol.specs.Stream.{Cell, Item, plain}
 use Rattle.vhost_link.specs.Mem.{event, HandsFront}
-use Rattle.vhost_endpoint.specs.Memory.{stream, TalksLaw}
+use Rattle.vhost_connection.specs.Memory.{stream, TalksLaw}
 use Rattle.vhost_link.specs.declared.plain.PlainHandle.{PlainHandle}
 use Rattle.vhost_dummy_backend.specs.Dummy.{DummyGives, Does, refusal}
 use Rattle.vhost_promises.specs.Example.{Device, owner_request}
@@ -30,7 +30,7 @@ use Rattle.vhost_promises.proofs.Known.{none-handed}
 use Rattle.vhost_promises.proofs.Serving.{Calls, Meets, asks, next}
 
 -- the request of that number
-abbrev unknown : Message FrontendReq PlainHandle
+abbrev unknown : Message HeardReq PlainHandle
 unknown = record { request = OTHER 600; reply = false; need_reply = false; body = replicate 8 0; handles = [] }
 
 module _ {B G : Type 0} (opens_backend : PlainHandle → Result B Error → Type 0) (opens_gpu : PlainHandle → Result G Error → Type 0) where

@@ -8,7 +8,7 @@ use Rattle.std.specs.Prelude.{if◌then◌else◌}
 use Rattle.vhost_protocol.specs.Stream.{items}
 use Rattle.vhost_link.specs.Law.{Event, Move, Moved, nothing, ◌then◌, done}
 use Rattle.vhost_link.specs.Law.Moved.{still, more}
-use Rattle.vhost_endpoint.specs.Talk.{State, Talks}
+use Rattle.vhost_connection.specs.Talk.{State, Talks}
 
 -- ---- two moves are one
 

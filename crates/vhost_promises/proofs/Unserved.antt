@@ -8,10 +8,10 @@ use Rattle.vhost_protocol.specs.Error.{Error}
 use Rattle.vhost_protocol.specs.Split.{Message}
 use Rattle.vhost_protocol.specs.Stream.{Cell}
 use Rattle.vhost_link.specs.Law.{Event, Move}
-use Rattle.vhost_endpoint.specs.Talk.{State, First, Trouble}
-use Rattle.vhost_endpoint.specs.Talk.Trouble.{was_broken, no_memory, fault}
-use Rattle.vhost_endpoint.specs.Serving.{HandlesOne}
-use Rattle.vhost_endpoint.specs.Serving.Breaks.{unread, unanswered}
+use Rattle.vhost_connection.specs.Talk.{State, First, Trouble}
+use Rattle.vhost_connection.specs.Talk.Trouble.{was_broken, no_memory, fault}
+use Rattle.vhost_connection.specs.Serving.{HandlesOne}
+use Rattle.vhost_connection.specs.Serving.Breaks.{unread, unanswered}
 use Rattle.vhost_promises.specs.Runs.{Unserved}
 
 -- trouble of an endpoint that was broken

@@ -1,8 +1,8 @@
 -- A whole run under Standard answers whoever waits.
 use Rattle.std.proofs.Common.{◌≡◌, ◌∙◌, List, [], ◌∷◌, ◌++◌, Option, Some, None, Result, Ok, Err, refl, sym, ap, subst, ℤ}
 use Rattle.std.specs.Prelude.{⊤}
-use Rattle.vhost_message.specs.declared.frontend_req.FrontendReq.{FrontendReq}
-use Rattle.vhost_message.specs.FrontendReq.{request_number}
+use Rattle.vhost_message.specs.declared.heard_req.HeardReq.{HeardReq}
+use Rattle.vhost_message.specs.HeardReq.{request_number}
 use Rattle.vhost_protocol.specs.Codes.{allows_handles}
 use Rattle.vhost_protocol.specs.declared.profile.Profile.TheVariants.{Standard}
 use Rattle.vhost_protocol.specs.DeviceCall.{Call, Answer}
@@ -18,10 +18,10 @@ use Rattle.vhost_protocol.proofs.FollowLaws.{met-profile, met-well}
 use Rattle.vhost_promises.specs.Waiting.{IsHeard, AllAnswered, no_more, ended, not_whole, served}
 
 module _ {H B G Dev : Type 0} (gives : Dev → (c : Call H B G) → Answer c → Dev → Type 0) (opens_backend : H → Result B Error → Type 0) (opens_gpu : H → Result G Error → Type 0) where
-  abbrev Meets : Session → Dev → Message FrontendReq H → Result ⊤ Error → List (Cell H) → Session → Dev → Type 0
+  abbrev Meets : Session → Dev → Message HeardReq H → Result ⊤ Error → List (Cell H) → Session → Dev → Type 0
   Meets = MeetsRow gives opens_backend opens_gpu
 
-  abbrev Handles : Session → Dev → Result (Message FrontendReq H) Error → Result ⊤ Error → List (Cell H) → Session → Dev → Type 0
+  abbrev Handles : Session → Dev → Result (Message HeardReq H) Error → Result ⊤ Error → List (Cell H) → Session → Dev → Type 0
   Handles = run.Handles heard_in allows_handles (λ (t : Session). t.failed) Meets
 
   -- the calls behind one, from the session that it left
@@ -38,7 +38,7 @@ module _ {H B G Dev : Type 0} (gives : Dev → (c : Call H B G) → Answer c →
       subst (λ (x : Result ⊤ Error). AllAnswered s (x ∷ answers) (now ++ later) (first ++ rest) s') (sym is) (subst (λ (cells : List (Cell H)). AllAnswered s (Err e ∷ answers) (now ++ later) (cells ++ rest) s') (sym silent) (adds left))
 
   -- a call that served a message
-  met : (s mid s' : Session) (d between : Dev) (m : Message FrontendReq H) (a : Result ⊤ Error) (answers : List (Result ⊤ Error)) (now later : List (Item H)) (first rest : List (Cell H)) → s.profile ≡ Standard
+  met : (s mid s' : Session) (d between : Dev) (m : Message HeardReq H) (a : Result ⊤ Error) (answers : List (Result ⊤ Error)) (now later : List (Item H)) (first rest : List (Cell H)) → s.profile ≡ Standard
       → s.failed ≡ None → IsHeard s now (Ok m) → Meets s d m a first mid between → Behind mid answers later rest s' → AllAnswered s (a ∷ answers) (now ++ later) (first ++ rest) s'
   unfolding Behind
   met s mid s' d between m a answers now later first rest standard sound came (o, meets, is_answer, is_written, is_session) behind =
@@ -48,7 +48,7 @@ module _ {H B G Dev : Type 0} (gives : Dev → (c : Call H B G) → Answer c →
       (subst (λ (cells : List (Cell H)). AllAnswered s (o.answer ∷ answers) (now ++ later) (cells ++ rest) s') (sym is_written) (served m o now sound came well left))
 
   -- a call of a session that has not ended
-  one : (s mid s' : Session) (d between : Dev) (outcome : Result (Message FrontendReq H) Error) (a : Result ⊤ Error) (answers : List (Result ⊤ Error)) (now later : List (Item H)) (first rest : List (Cell H)) → s.profile ≡ Standard
+  one : (s mid s' : Session) (d between : Dev) (outcome : Result (Message HeardReq H) Error) (a : Result ⊤ Error) (answers : List (Result ⊤ Error)) (now later : List (Item H)) (first rest : List (Cell H)) → s.profile ≡ Standard
       → s.failed ≡ None → IsHeard s now outcome → Handles s d outcome a first mid between → Behind mid answers later rest s' → AllAnswered s (a ∷ answers) (now ++ later) (first ++ rest) s'
   one s mid s' d between (Err e) a answers now later first rest standard sound came handles behind =
       unchanged s mid s' d between e a answers now later first rest standard (λ left. not_whole e now sound came left) handles behind

@@ -1,7 +1,7 @@
 -- What a step of a joined run does, whatever was before.
 use Rattle.std.proofs.Common.{◌≡◌, inl, true, List, [], Option, Result, Ok, Err, refl, sym, ap, subst, ◌∙◌}
 use Rattle.std.specs.Prelude.{⊤, IfOk}
-use Rattle.vhost_message.specs.declared.frontend_req.FrontendReq.{FrontendReq}
+use Rattle.vhost_message.specs.declared.heard_req.HeardReq.{HeardReq}
 use Rattle.vhost_protocol.specs.Ask as ask
 use Rattle.vhost_protocol.specs.Ask.{Asked, ask}
 use Rattle.vhost_protocol.specs.Error.{Error, InvalidParam}
@@ -12,11 +12,11 @@ use Rattle.vhost_link.specs.declared.cut.Cut.{Cut}
 use Rattle.vhost_link.specs.declared.plain.PlainHandle.{PlainHandle}
 use Rattle.vhost_frontend_core.specs.Values.{answer_of}
 use Rattle.vhost_frontend_core.specs.declared.values.answer.FrontendAnswer.{FrontendAnswer}
-use Rattle.vhost_pair.specs.Device.{Gives}
-use Rattle.vhost_pair.specs.Joined as joined
-use Rattle.vhost_pair.specs.Joined.{View, Cuts, Passes, Steps, Moves, request_cells, unheard}
-use Rattle.vhost_pair.specs.Text.{no_text, text_of}
-use Rattle.vhost_pair.specs.declared.halt.Halt.{Halt}
+use Rattle.vhost_joined.specs.Device.{Gives}
+use Rattle.vhost_joined.specs.Joined as joined
+use Rattle.vhost_joined.specs.Joined.{View, Cuts, Passes, Steps, Moves, request_cells, unheard}
+use Rattle.vhost_joined.specs.Text.{no_text, text_of}
+use Rattle.vhost_joined.specs.declared.halt.Halt.{Halt}
 use Rattle.vhost_promises.specs.Joined.{FailsAtOnce}
 use Rattle.vhost_promises.specs.Scripts.{left_with}
 use Rattle.vhost_promises.proofs.ByScript.{no-fault}
@@ -27,7 +27,7 @@ refusal_in (ask.Refuses e) = e
 refusal_in _ = InvalidParam
 
 -- a request has a first byte
-some-request : (w : Written FrontendReq PlainHandle) → has_some (request_cells w) ≡ true
+some-request : (w : Written HeardReq PlainHandle) → has_some (request_cells w) ≡ true
 some-request w = refl
 
 module _ {Dev : Type 0} (gives : Gives Dev) (old new : View Dev) (call : FrontendCall PlainHandle) where
@@ -47,12 +47,12 @@ module _ {Dev : Type 0} (gives : Gives Dev) (old new : View Dev) (call : Fronten
   -- ---- a handler's link that fails at once
 
   module _ (fails : FailsAtOnce old.serving) (none : old.to_handler ≡ []) where
-    passes-not : (w : Written FrontendReq PlainHandle) (mid : Cuts) → Passes old.budget (unheard old.to_handler (request_cells w)) old.serving mid → ⊥
+    passes-not : (w : Written HeardReq PlainHandle) (mid : Cuts) → Passes old.budget (unheard old.to_handler (request_cells w)) old.serving mid → ⊥
     passes-not w mid p =
         let whole : Passes old.budget (request_cells w) old.serving mid = subst (λ way. Passes old.budget (unheard way (request_cells w)) old.serving mid) none p in
         no-fault old.budget old.serving.wants fails.0 fails.1 (request_cells w) mid fails.3 (some-request w) (subst (λ (script : List Cut). Passes old.budget (request_cells w) (left_with script old.serving.wants) mid) fails.2 whole)
 
-    nothing-came : (w : Written FrontendReq PlainHandle) (left came : List (Cell PlainHandle)) (answer : Option (Result ⊤ Error)) → joined.Serves gives old new w left came answer → came ≡ []
+    nothing-came : (w : Written HeardReq PlainHandle) (left came : List (Cell PlainHandle)) (answer : Option (Result ⊤ Error)) → joined.Serves gives old new w left came answer → came ≡ []
     nothing-came w left came _ (joined.full some came' session device link on_way) = came'
     nothing-came w left came _ (joined.unread c read s came' session device on_way) = came'
     nothing-came w left came _ (joined.unanswered c m answer reply after count s first met short front session) = absurd (passes-not w s.mid s.asked)

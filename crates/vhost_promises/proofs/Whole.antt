@@ -11,10 +11,10 @@ use Rattle.vhost_protocol.specs.Error.{Error}
 use Rattle.vhost_protocol.specs.Split.{Message}
 use Rattle.vhost_protocol.specs.Stream.{Cell}
 use Rattle.vhost_link.specs.Law.{Event, Move}
-use Rattle.vhost_endpoint.specs.Talk.{State, Growth, Trouble}
-use Rattle.vhost_endpoint.specs.Talk.Trouble.{was_broken, no_memory, fault}
-use Rattle.vhost_endpoint.specs.Serving.{Breaks, WholeRun, RunsMany, Runs}
-use Rattle.vhost_endpoint.specs.Serving.Breaks.{unread, unanswered}
+use Rattle.vhost_connection.specs.Talk.{State, Growth, Trouble}
+use Rattle.vhost_connection.specs.Talk.Trouble.{was_broken, no_memory, fault}
+use Rattle.vhost_connection.specs.Serving.{Breaks, WholeRun, RunsMany, Runs}
+use Rattle.vhost_connection.specs.Serving.Breaks.{unread, unanswered}
 use Rattle.vhost_promises.specs.Runs.{of_link, answer_of_link}
 
 -- the error of a cause is a link's

@@ -13,8 +13,8 @@ use Rattle.vhost_protocol.specs.Reverse.{ReverseCall, Refuses, Sends, reverse_as
 use Rattle.vhost_protocol.specs.Stream.{Cell, heard}
 use Rattle.vhost_protocol.specs.Written.{Written, written_cells, head_of}
 use Rattle.vhost_link.specs.Law.{Event}
-use Rattle.vhost_endpoint.specs.Asking.{is_known_by}
-use Rattle.vhost_endpoint.specs.Talk.{State}
+use Rattle.vhost_connection.specs.Asking.{is_known_by}
+use Rattle.vhost_connection.specs.Talk.{State}
 use Rattle.vhost_backend_req.specs.Channel.{Channel, backend_of}
 use Rattle.vhost_promises.specs.Calls.{Exchanges, HasReason, is_io_fault}
 

@@ -8,7 +8,7 @@ use Rattle.vhost_protocol.specs.Error.{Error, SocketError, SocketBroken, SocketC
 use Rattle.vhost_protocol.specs.IoError.{IoError, Of, In}
 use Rattle.vhost_protocol.specs.Stream.{Cell, Item}
 use Rattle.vhost_link.specs.Law.{Event, Move, move}
-use Rattle.vhost_endpoint.specs.Talk.{State, Fell, Serves, Talks, has_moved}
+use Rattle.vhost_connection.specs.Talk.{State, Fell, Serves, Talks, has_moved}
 
 -- an error that a link or want of memory may bring
 abbrev pub is_fault : Error → Bool

@@ -12,7 +12,7 @@ use Rattle.vhost_protocol.specs.ReplySplit.{Received, reply_split}
 use Rattle.vhost_protocol.specs.Row.{always}
 use Rattle.vhost_protocol.specs.Stream.{Cell, heard}
 use Rattle.vhost_link.specs.Law.{Event}
-use Rattle.vhost_endpoint.specs.Talk.{State}
+use Rattle.vhost_connection.specs.Talk.{State}
 use Rattle.vhost_gpu_backend_req.specs.Channel.{Channel}
 use Rattle.vhost_promises.specs.Calls.{Exchanges, HasReason, is_io_fault}
 

@@ -7,8 +7,8 @@ use Rattle.vhost_frontend_core.specs.Values.{answer_of}
 use Rattle.vhost_frontend_core.specs.declared.values.answer.FrontendAnswer.{FrontendAnswer}
 use Rattle.vhost_link.specs.Ends.{Ends}
 use Rattle.vhost_link.specs.declared.plain.PlainHandle.{PlainHandle}
-use Rattle.vhost_pair.specs.Joined.{View, IsReady}
-use Rattle.vhost_pair.specs.declared.halt.Stop.TheVariants.{Table}
+use Rattle.vhost_joined.specs.Joined.{View, IsReady}
+use Rattle.vhost_joined.specs.declared.halt.Stop.TheVariants.{Table}
 
 -- the example device
 abbrev pub Device : Type 0

@@ -6,7 +6,7 @@ use Rattle.vhost_protocol.specs.Error.{FrontendInternalError, Raw}
 use Rattle.vhost_protocol.specs.IoError.{IoError, Because, Of, seen_io_result}
 use Rattle.vhost_protocol.specs.Reverse.{Backend, ReverseCall, SharedObjectAdd, Server}
 use Rattle.vhost_link.specs.declared.plain.PlainHandle.{PlainHandle}
-use Rattle.vhost_pair_reverse.specs.Joined.{View, IsReady}
+use Rattle.vhost_joined_reverse.specs.Joined.{View, IsReady}
 use Rattle.vhost_promises.specs.Joined.{new_backend, new_server}
 use Rattle.vhost_promises.specs.declared.example_back.OneObject.{OneObject}
 

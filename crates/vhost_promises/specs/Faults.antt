@@ -4,7 +4,7 @@ use Rattle.vhost_message.specs.Cause.{is_retry, error_of}
 use Rattle.vhost_message.specs.declared.cause.IoCause.{IoCause}
 use Rattle.vhost_message.specs.declared.error.Error as declared
 use Rattle.vhost_link.specs.Law.{Event, Move}
-use Rattle.vhost_endpoint.specs.Talk.{State, Fell, Talks, has_moved}
+use Rattle.vhost_connection.specs.Talk.{State, Fell, Talks, has_moved}
 
 -- A call met a fault: the link failed last, with this cause, whose error is the answer; one that asks for a retry was one more than a message may take. It broke the endpoint where a byte had moved before it, and only there.
 pub record MeetsFaultAs {L H : Type 0} (event : L → Event H → L → Type 0) (old : State L H) (answers : declared.Error → Type 0) (new : State L H) : Type 0 where

@@ -2,7 +2,7 @@
 use Rattle.std.specs.Prelude.{◌≡◌, ℕ, ◌<◌, ℤ, List, ◌∷◌, ◌++◌, None, false, Result, Err}
 use Rattle.vhost_message.specs.Cause.{is_retry}
 use Rattle.vhost_message.specs.declared.cause.IoCause.TheVariants.{Raw}
-use Rattle.vhost_message.specs.declared.frontend_req.FrontendReq.{FrontendReq}
+use Rattle.vhost_message.specs.declared.heard_req.HeardReq.{HeardReq}
 use Rattle.vhost_protocol.specs.Error.{OutOfMemory}
 use Rattle.vhost_protocol.specs.FrontendCall.{new_frontend}
 use Rattle.vhost_protocol.specs.Handler.{Meets}
@@ -17,13 +17,13 @@ use Rattle.vhost_backend_req.specs.declared.call.ReverseCall.{ReverseCall}
 use Rattle.vhost_link.specs.declared.cut.Cut.{Cut}
 use Rattle.vhost_link.specs.declared.cut.Cut.TheVariants.{Fault}
 use Rattle.vhost_link.specs.declared.plain.PlainHandle.{PlainHandle}
-use Rattle.vhost_pair_reverse.specs.Joined as back
-use Rattle.vhost_pair_reverse.specs.Lockstep as back_lockstep
+use Rattle.vhost_joined_reverse.specs.Joined as back
+use Rattle.vhost_joined_reverse.specs.Lockstep as back_lockstep
 use Rattle.vhost_frontend_core.specs.declared.values.answer.FrontendAnswer.{FrontendAnswer}
 use Rattle.vhost_frontend_core.specs.declared.values.call.FrontendCall.{FrontendCall}
-use Rattle.vhost_pair.specs.Device.{Gives, opens_backend, opens_gpu}
-use Rattle.vhost_pair.specs.Joined.{View, Cuts}
-use Rattle.vhost_pair.specs.Lockstep.{entries}
+use Rattle.vhost_joined.specs.Device.{Gives, opens_backend, opens_gpu}
+use Rattle.vhost_joined.specs.Joined.{View, Cuts}
+use Rattle.vhost_joined.specs.Lockstep.{entries}
 
 -- The answers that were appended are those of a joined run from two fresh sessions and this device to those of now.
 pub record AnswersFresh {Dev : Type 0} (gives : Gives Dev) (queues : ℕ) (device : Dev) (calls : List FrontendCall) (before after : List FrontendAnswer) (now : View Dev) : Type 0 where
@@ -39,7 +39,7 @@ FailsAtOnce link = (e : ℤ) × (cuts : List Cut) × (link.script ≡ Fault e �
 pub data WantsMemory {Dev : Type 0} (gives : Gives Dev) (now : View Dev) : Type 0 where
   of_asking : 0 < now.asking.wants → WantsMemory gives now
   of_serving : 0 < now.serving.wants → WantsMemory gives now
-  of_handler : (before : View Dev) (w : Written FrontendReq PlainHandle) (o : Outcome PlainHandle) → Meets gives opens_backend opens_gpu before.session before.device (read_as w) o now.device → o.answer ≡ Err OutOfMemory
+  of_handler : (before : View Dev) (w : Written HeardReq PlainHandle) (o : Outcome PlainHandle) → Meets gives opens_backend opens_gpu before.session before.device (read_as w) o now.device → o.answer ≡ Err OutOfMemory
       → WantsMemory gives now
 
 -- what both sides of the reverse channel remember as they begin

@@ -3,7 +3,7 @@ use Rattle.std.specs.Prelude.{◌≡◌, [], None, true, false}
 use Rattle.vhost_protocol.specs.FrontendCall.{FrontendCall, Frontend}
 use Rattle.vhost_link.specs.declared.plain.PlainHandle.{PlainHandle}
 use Rattle.vhost_frontend_core.specs.Halves.{makes_room}
-use Rattle.vhost_pair.specs.Joined.{View}
+use Rattle.vhost_joined.specs.Joined.{View}
 
 -- the run goes on, nothing is on the way, and both sides have their lists of handles
 pub record IsBefore {Dev : Type 0} (v : View Dev) : Type 0 where

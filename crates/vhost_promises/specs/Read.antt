@@ -6,7 +6,7 @@ use Rattle.vhost_protocol.specs.Stream.{plain}
 use Rattle.vhost_link.specs.Ends.{Ends, empty}
 use Rattle.vhost_link.specs.declared.cut.Cut.{Cut}
 use Rattle.vhost_promises.specs.Served.{features_reply, features_request}
-use Rattle.vhost_endpoint.specs.Memory.{stream}
+use Rattle.vhost_connection.specs.Memory.{stream}
 use Rattle.vhost_promises.specs.Streams.{Near}
 
 -- a link in memory on which the reply came, with these cuts

@@ -12,12 +12,12 @@ use Rattle.vhost_protocol.specs.IoError.{IoError}
 use Rattle.vhost_protocol.specs.Reverse.{ReverseCall, ReverseMeets, Server, backend_allows_handles}
 use Rattle.vhost_protocol.specs.Session.{Session, heard_in}
 use Rattle.vhost_link.specs.Law.{Event}
-use Rattle.vhost_endpoint.specs.Talk.{State}
-use Rattle.vhost_endpoint.specs.Serving.{WholeRun}
+use Rattle.vhost_connection.specs.Talk.{State}
+use Rattle.vhost_connection.specs.Serving.{WholeRun}
 use Rattle.vhost_frontend_req_handler.specs.Handling.{fitting, kept}
 use Rattle.vhost_promises.specs.Calls.{is_fault}
-use Rattle.vhost_serving.specs.Serving.{kept_unsent}
-use Rattle.vhost_serving.specs.Serving as served
+use Rattle.vhost_backend_req_handler.specs.Serving.{kept_unsent}
+use Rattle.vhost_backend_req_handler.specs.Serving as served
 
 -- an error that a link or want of memory may bring
 abbrev pub of_link : Error → Bool

@@ -8,7 +8,7 @@ use Rattle.vhost_protocol.specs.Stream.{Cell, has_some}
 use Rattle.vhost_link.specs.declared.cut.Cut.{Cut}
 use Rattle.vhost_link.specs.declared.cut.Cut.TheVariants.{Fault}
 use Rattle.vhost_link.specs.declared.plain.PlainHandle.{PlainHandle}
-use Rattle.vhost_pair.specs.Joined.{Cuts, Passes, Stops}
+use Rattle.vhost_joined.specs.Joined.{Cuts, Passes, Stops}
 
 -- a link with this script left, that wanted memory so often
 abbrev pub left_with : List Cut → ℕ → Cuts

@@ -7,7 +7,7 @@ use Rattle.vhost_protocol.specs.Stream.{plain}
 use Rattle.vhost_link.specs.Ends.{Ends, empty}
 use Rattle.vhost_link.specs.declared.cut.Cut.{Cut}
 use Rattle.vhost_promises.specs.Example.{Device, owner_request, serving}
-use Rattle.vhost_endpoint.specs.Memory.{stream}
+use Rattle.vhost_connection.specs.Memory.{stream}
 use Rattle.vhost_promises.specs.Streams.{Near}
 
 -- the request for the features: its code, no flag but the version's, and no body

@@ -3,8 +3,8 @@ use Rattle.std.specs.Prelude.{◌≡◌, None, Some, Result, Ok}
 use Rattle.vhost_message.specs.declared.cause.IoCause.{IoCause}
 use Rattle.vhost_message.specs.declared.error.Error as declared
 use Rattle.vhost_message.specs.MsgHeader.{fields_of}
-use Rattle.vhost_message.specs.declared.frontend_req.FrontendReq.{FrontendReq}
-use Rattle.vhost_frontend_types.specs.declared.error.Error as device
+use Rattle.vhost_message.specs.declared.heard_req.HeardReq.{HeardReq}
+use Rattle.vhost_backend.specs.declared.error.Error as device
 use Rattle.vhost_protocol.specs.AnswerTable.{answered}
 use Rattle.vhost_protocol.specs.Ask.{Sends, ask}
 use Rattle.vhost_protocol.specs.declared.asked.Awaited.{Awaited}
@@ -24,7 +24,7 @@ pub record OwnAnswer {L H : Type 0} (event : L → Event H → L → Type 0) (ca
   pub old : FrontendInternal L H
   pub middle : FrontendInternal L H
   pub new : FrontendInternal L H
-  pub message : Written FrontendReq H
+  pub message : Written HeardReq H
   pub awaited : Awaited
   pub sent : Sent
   pub before : awaits old ≡ Nobody

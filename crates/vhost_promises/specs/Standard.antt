@@ -8,7 +8,7 @@ use Rattle.vhost_link.specs.Ends.{Ends, empty}
 use Rattle.vhost_link.specs.declared.cut.Cut.{Cut}
 use Rattle.vhost_protocol.specs.Stream.{plain}
 use Rattle.vhost_promises.specs.Example.{Device, owner_request}
-use Rattle.vhost_endpoint.specs.Memory.{stream}
+use Rattle.vhost_connection.specs.Memory.{stream}
 use Rattle.vhost_promises.specs.Streams.{Near}
 
 -- a new session under Standard

@@ -6,7 +6,7 @@ use Rattle.vhost_protocol.specs.FrontendCall.{Frontend, new_frontend}
 use Rattle.vhost_protocol.specs.Stream.{plain}
 use Rattle.vhost_protocol.specs.declared.profile.Profile.TheVariants.{Standard}
 use Rattle.vhost_promises.specs.Served.{features_request}
-use Rattle.vhost_endpoint.specs.Memory.{stream}
+use Rattle.vhost_connection.specs.Memory.{stream}
 use Rattle.vhost_promises.specs.Streams.{Near}
 
 -- a frontend that acknowledged CONFIG alone

@@ -1,23 +1,23 @@
 //! Whole messages of an endpoint.
 
 ghost use Rattle.std.specs.Prelude.{◌+◌, ◌++◌, ◌≤◌, [], IfOk, length};
-ghost use Rattle.vhost_endpoint.specs.Pass.{WentAtOnce};
-ghost use Rattle.vhost_endpoint.specs.State.{state};
+ghost use Rattle.vhost_connection.specs.Pass.{WentAtOnce};
+ghost use Rattle.vhost_connection.specs.State.{state};
 ghost use Rattle.vhost_message.specs.Header.{header_text};
 ghost use Rattle.vhost_message.specs.MsgHeader.{fields_of};
 ghost use Rattle.vhost_message.specs.Records.{config_text};
 ghost use Rattle.vhost_message.specs.declared.limits.TheConstants.{MAX_MSG_SIZE};
 ghost use Rattle.vhost_protocol.specs.Stream.{carrying};
 
-use vhost_endpoint::Endpoint;
+use vhost_connection::Endpoint;
 use vhost_link::Link;
-use vhost_message::{FrontendReq, Result, VhostUserConfig, VhostUserMsgHeader};
+use vhost_message::{HeardReq, Result, VhostUserConfig, VhostUserMsgHeader};
 
 /// Sends bytes of the configuration space behind their header and record. Where they fit and the link makes no short write, the whole
 /// message goes out by one call of the link, with nothing before it but retries.
 pub fn sends_in_one<L: Link>(
-    endpoint: &mut Endpoint<VhostUserMsgHeader<FrontendReq>, L>,
-    header: &VhostUserMsgHeader<FrontendReq>,
+    endpoint: &mut Endpoint<VhostUserMsgHeader<HeardReq>, L>,
+    header: &VhostUserMsgHeader<HeardReq>,
     part: &VhostUserConfig,
     bytes: &[u8],
 ) -> Result<()>

@@ -4,14 +4,14 @@ ghost use Rattle.std.specs.Prelude.{◌≡◌, ◌≢◌, ◌++◌, [], ◌∷�
 ghost use Rattle.vhost_dummy_backend.specs.Dummy.{fresh};
 ghost use Rattle.vhost_frontend_core.specs.Values.{answer_of};
 ghost use Rattle.vhost_frontend_core.specs.declared.values.answer.FrontendAnswer.{FrontendAnswer};
-ghost use Rattle.vhost_pair.specs.declared.halt.Stop.TheVariants.{Premise};
+ghost use Rattle.vhost_joined.specs.declared.halt.Stop.TheVariants.{Premise};
 ghost use Rattle.vhost_promises.specs.Example.{Claims, RefusesAgain};
 
 use std::alloc::Global;
 use vhost_dummy_backend::DummyBackendReqHandler;
 use vhost_frontend_core::{FrontendAnswer, FrontendCall};
+use vhost_joined::{Halt, Joined};
 use vhost_link::{MemLink, PlainHandle};
-use vhost_pair::{Halt, Joined};
 
 /// The example device, over links in memory.
 pub type Device = DummyBackendReqHandler<MemLink>;

@@ -2,15 +2,15 @@
 
 ghost use Rattle.std.specs.Prelude.{◌≡◌, ◌≢◌, ◌++◌, [], ◌∷◌, Some, IfOk, List, Result, ℕ};
 ghost use Rattle.vhost_message.specs.declared.io_error.IoError as declared;
-ghost use Rattle.vhost_pair.specs.declared.halt.Stop.TheVariants.{Premise};
+ghost use Rattle.vhost_joined.specs.declared.halt.Stop.TheVariants.{Premise};
 ghost use Rattle.vhost_promises.specs.ExampleBack.{Shares, SharesAgain, name};
 
 use std::alloc::Global;
 use vhost_frontend_req_handler::VhostUserFrontendReqHandlerMut;
+use vhost_joined::Halt;
+use vhost_joined_reverse::{JoinedReverse, ReverseCall};
 use vhost_link::PlainHandle;
 use vhost_message::{ByteValued, HandlerResult, IoError, VhostUserMMap, VhostUserSharedMsg};
-use vhost_pair::Halt;
-use vhost_pair_reverse::{JoinedReverse, ReverseCall};
 
 /// The system's error for a call that is not there (ENOSYS).
 const ENOSYS: i32 = 38;

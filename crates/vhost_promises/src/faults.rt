@@ -1,18 +1,18 @@
 //! A handler whose link fails, and what comes after it.
 
 ghost use Rattle.std.specs.Prelude.{◌≡◌, None, Some, true, IfOk};
-ghost use Rattle.vhost_serving.specs.Core.{endpoint_of, session_in};
+ghost use Rattle.vhost_backend_req_handler.specs.Core.{endpoint_of, session_in};
 ghost use Rattle.vhost_frontend_req_handler.specs.Core.{endpoint_of as endpoint_back, server_in};
 ghost use Rattle.vhost_message.specs.declared.cause.IoCause.{IoCause};
 ghost use Rattle.vhost_message.specs.declared.error.Error.TheVariants.{SocketBroken};
 ghost use Rattle.vhost_promises.specs.Faults.{MeetsFault, StaysBroken};
 
 use std::alloc::Global;
+use vhost_backend_req_handler::SessionCore;
 use vhost_device::VhostUserBackendReqHandlerMut;
 use vhost_frontend_req_handler::{FrontendReqCore, VhostUserFrontendReqHandlerMut};
 use vhost_link::Link;
 use vhost_message::Result;
-use vhost_serving::SessionCore;
 
 /// Serves one request of a frontend. Where the endpoint says that it met an I/O error, the answer is the error of the link's last event,
 /// and that poisoned the endpoint if a byte of request or reply had moved before, and only then.

@@ -1,19 +1,23 @@
-//! Serving in two halves.
+//! Serving and asking in two halves.
 
 ghost use Rattle.std.specs.Prelude.{◌≡◌, None, false, is_some};
-ghost use Rattle.vhost_serving.specs.Core.{endpoint_of, session_in};
-ghost use Rattle.vhost_serving.specs.Opening.{OpensAsBackend, OpensAsGpu};
-ghost use Rattle.vhost_serving.specs.Serving.{HandlesOne};
+ghost use Rattle.vhost_backend_req_handler.specs.Core.{endpoint_of, session_in};
+ghost use Rattle.vhost_backend_req_handler.specs.Opening.{OpensAsBackend, OpensAsGpu};
+ghost use Rattle.vhost_backend_req_handler.specs.Serving.{HandlesOne};
+ghost use Rattle.vhost_frontend.specs.Whole.{Whole};
+ghost use Rattle.vhost_frontend_core.specs.Frontend.{MayAsk};
 ghost use Rattle.vhost_frontend_req_handler.specs.Core.{endpoint_of as channel_of, server_in};
 ghost use Rattle.vhost_frontend_req_handler.specs.Handling.{HandlesOne as AnswersOne};
+ghost use Rattle.vhost_protocol.specs.FrontendCall as value;
 
+use vhost_backend_req_handler::{SessionCore, halves_law};
 use vhost_device::VhostUserBackendReqHandlerMut;
+use vhost_frontend_core::FrontendInternal;
 use vhost_frontend_req_handler::{
     FrontendReqCore, VhostUserFrontendReqHandlerMut, call_device, halves_law as channel_law,
 };
 use vhost_link::Link;
 use vhost_message::{Error, Result};
-use vhost_serving::{SessionCore, halves_law};
 
 /// A request is served in two halves, with a device between them: that is one call of a handler with this device.
 pub fn serves_by_halves<L: Link, D: VhostUserBackendReqHandlerMut<Link = L>>(
@@ -50,6 +54,28 @@ pub fn answers_by_halves<L: Link, D: VhostUserFrontendReqHandlerMut<Handle = L::
             let answer = call_device(device, call);
             core.conclude(answer)
         }
+        Err(error) => Err(error),
+    }
+}
+
+/// A device's features are asked for in two halves: that is the call as a whole.
+pub fn features_by_halves<L: Link>(frontend: &mut FrontendInternal<L>) -> Result<u64>
+    requires { MayAsk frontend.old }
+    ensures { Whole L.event value.GetFeatures value.Number frontend.old result frontend.new }
+{
+    match frontend.ask_get_features() {
+        Ok(sent) => frontend.take_get_features(sent),
+        Err(error) => Err(error),
+    }
+}
+
+/// A device is claimed in two halves, whether or not an acknowledgement is awaited: that is the call as a whole.
+pub fn claims_by_halves<L: Link>(frontend: &mut FrontendInternal<L>) -> Result<()>
+    requires { MayAsk frontend.old }
+    ensures { Whole L.event value.SetOwner (λ _. value.Nothing) frontend.old result frontend.new }
+{
+    match frontend.ask_set_owner() {
+        Ok(sent) => frontend.take_set_owner(sent),
         Err(error) => Err(error),
     }
 }

@@ -1,11 +1,11 @@
 //! Both sides joined.
 
 ghost use Rattle.std.specs.Prelude.{◌≡◌, ◌≢◌, ◌++◌, [], None, Some, Err, IfOk, Bool, List, true};
-ghost use Rattle.vhost_pair.specs.declared.halt.Stop.TheVariants.{Premise};
-ghost use Rattle.vhost_pair.specs.Joined.{IsReady, Offers};
-ghost use Rattle.vhost_pair.specs.Lockstep.{ArePlain, AreOffered, Lockstep};
+ghost use Rattle.vhost_joined.specs.declared.halt.Stop.TheVariants.{Premise};
+ghost use Rattle.vhost_joined.specs.Joined.{IsReady, Offers};
+ghost use Rattle.vhost_joined.specs.Lockstep.{ArePlain, AreOffered, Lockstep};
 ghost use Rattle.vhost_frontend_core.specs.Values.{answer_of, call_of};
-ghost use Rattle.vhost_pair.specs.Text.{no_text};
+ghost use Rattle.vhost_joined.specs.Text.{no_text};
 ghost use Rattle.vhost_promises.specs.Joined.{AnswersFresh, AnswersFreshBack, FailsAtOnce, WantsMemory};
 ghost use Rattle.vhost_protocol.specs.Ask.{Refuses, ask};
 ghost use Rattle.vhost_protocol.specs.Error.{Error};
@@ -14,10 +14,10 @@ use std::alloc::Global;
 use vhost_device::VhostUserBackendReqHandlerMut;
 use vhost_frontend_core::{FrontendAnswer, FrontendCall};
 use vhost_frontend_req_handler::VhostUserFrontendReqHandlerMut;
+use vhost_joined::{Halt, Joined};
+use vhost_joined_reverse::{JoinedReverse, ReverseCall};
 use vhost_link::{Cut, MemLink, PlainHandle};
 use vhost_message::HandlerResult;
-use vhost_pair::{Halt, Joined};
-use vhost_pair_reverse::{JoinedReverse, ReverseCall};
 
 /// Joins two new sides over a device, and does these calls. Unless the run stopped because an assumption failed, the calls that were
 /// answered are a joined run of the protocol from two fresh sessions to those of now, and the device moved by its own relation.

@@ -33,7 +33,7 @@ pub use example_back::{OneObject, shares_object, shares_twice};
 pub use faults::{meets_fault, meets_fault_back, stays_broken, stays_broken_back};
 pub use faults_asking::{adds_broken, asks_broken, displays_broken, meets_fault_asking};
 pub use faults_calling::meets_fault_calling;
-pub use halves::{answers_by_halves, serves_by_halves};
+pub use halves::{answers_by_halves, claims_by_halves, features_by_halves, serves_by_halves};
 pub use joined::{
     refuses_whatever_was, runs_back_in_lockstep, runs_in_lockstep, shows_no_reply, stays_in_step,
 };

@@ -9,9 +9,9 @@ ghost use Rattle.vhost_promises.specs.Memory.{IsBefore, MakesNoRoom};
 
 use vhost_device::VhostUserBackendReqHandlerMut;
 use vhost_frontend_core::{FrontendAnswer, FrontendCall, FrontendInternal, Sent, ask};
+use vhost_joined::{Halt, Joined};
 use vhost_link::MemLink;
 use vhost_message::Result;
-use vhost_pair::{Halt, Joined};
 
 /// Asks by value. A call that makes no room for its answer wants no memory where the session has its descriptor buffer.
 pub fn asks_without_memory(

@@ -1,13 +1,13 @@
 //! The channel that a request opens.
 
 ghost use Rattle.std.specs.Prelude.{◌≡◌, None, IfOk};
-ghost use Rattle.vhost_serving.specs.Core.{endpoint_of, session_in};
+ghost use Rattle.vhost_backend_req_handler.specs.Core.{endpoint_of, session_in};
 ghost use Rattle.vhost_promises.specs.Opening.{OpensItsOwn};
 
+use vhost_backend_req_handler::SessionCore;
 use vhost_device::VhostUserBackendReqHandlerMut;
 use vhost_link::Link;
 use vhost_message::Result;
-use vhost_serving::SessionCore;
 
 /// Serves one request of a frontend, of a session that is not marked as failed. Where it succeeds and asks for the backend channel,
 /// the device was given a channel over the link that the request's one file descriptor was opened as, with the session's retry limit.

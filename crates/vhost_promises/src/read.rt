@@ -1,18 +1,18 @@
 //! A frontend's call, with an exact answer.
 
 ghost use Rattle.std.specs.Prelude.{◌≡◌, ℕ, false, IfOk};
-ghost use Rattle.vhost_endpoint.specs.State.{fresh};
+ghost use Rattle.vhost_connection.specs.State.{fresh};
 ghost use Rattle.vhost_frontend_core.specs.Frontend.{endpoint_of, session_of};
 ghost use Rattle.vhost_promises.specs.Read.{ReadsFeatures, replied};
 ghost use Rattle.vhost_promises.specs.Runs.{answer_of_link};
 ghost use Rattle.vhost_promises.specs.Served.{features_reply};
-ghost use Rattle.vhost_endpoint.specs.Memory.{stream};
+ghost use Rattle.vhost_connection.specs.Memory.{stream};
 ghost use Rattle.vhost_frontend.specs.Whole.{Whole};
 ghost use Rattle.vhost_protocol.specs.FrontendCall.{GetFeatures, Number, new_frontend};
 ghost use Rattle.vhost_protocol.specs.Stream.{plain};
 
 use std::alloc::Global;
-use vhost_endpoint::talks_law;
+use vhost_connection::talks_law;
 use vhost_frontend::{Call, Quiet};
 use vhost_link::{Cut, Link, MemLink};
 use vhost_message::{Error, Result};

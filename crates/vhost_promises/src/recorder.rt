@@ -2,7 +2,7 @@
 
 ghost use Rattle.std.specs.Prelude.{◌≡◌, ◌≢◌, [], IfOk, IfSome, None, Some, Ok, true, length};
 ghost use Rattle.vhost_frontend_core.specs.Values.{call_of, answer_of};
-ghost use Rattle.vhost_pair.specs.declared.halt.Stop.TheVariants.{Premise};
+ghost use Rattle.vhost_joined.specs.declared.halt.Stop.TheVariants.{Premise};
 ghost use Rattle.vhost_promises.specs.Recorder.{RecordsTwo, Begins};
 ghost use Rattle.vhost_recorder.specs.Share.{parts_of, count_of};
 ghost use Rattle.vhost_protocol.specs.FrontendCall.{GetFeatures, SetOwner, Number};

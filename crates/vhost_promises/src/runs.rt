@@ -3,19 +3,19 @@
 ghost use Rattle.std.specs.Prelude.{◌≡◌, None, Some, false, IfOk};
 ghost use Rattle.vhost_message.specs.declared.cause.IoCause.{IoCause};
 ghost use Rattle.std.specs.List.{list_any};
-ghost use Rattle.vhost_serving.specs.Core.{endpoint_of, session_in};
-ghost use Rattle.vhost_serving.specs.Opening.{OpensAsBackend, OpensAsGpu};
+ghost use Rattle.vhost_backend_req_handler.specs.Core.{endpoint_of, session_in};
+ghost use Rattle.vhost_backend_req_handler.specs.Opening.{OpensAsBackend, OpensAsGpu};
 ghost use Rattle.vhost_frontend_req_handler.specs.Core.{endpoint_of as endpoint_back, server_in};
 ghost use Rattle.vhost_protocol.specs.declared.profile.Profile.TheVariants.{Standard};
 ghost use Rattle.vhost_promises.specs.Waiting.{AnswersWaiting};
 ghost use Rattle.vhost_promises.specs.Runs.{Unserved, WholeBack, WholeServed, answer_of_link};
 
 use std::alloc::Global;
+use vhost_backend_req_handler::SessionCore;
 use vhost_device::VhostUserBackendReqHandlerMut;
 use vhost_frontend_req_handler::{FrontendReqCore, VhostUserFrontendReqHandlerMut};
 use vhost_link::Link;
 use vhost_message::Result;
-use vhost_serving::SessionCore;
 
 /// Serves so many requests of a frontend. Where none of the answers is an error that a link or a failed allocation may bring, they, what
 /// was received and what was written are a run of the protocol table, over every device and every link.

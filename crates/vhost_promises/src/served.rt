@@ -2,22 +2,22 @@
 
 ghost use Rattle.std.specs.Prelude.{◌≡◌, false, IfOk};
 ghost use Rattle.std.specs.List.{list_any};
-ghost use Rattle.vhost_serving.specs.Core.{endpoint_of, session_in};
-ghost use Rattle.vhost_endpoint.specs.State.{fresh as new_endpoint};
+ghost use Rattle.vhost_backend_req_handler.specs.Core.{endpoint_of, session_in};
+ghost use Rattle.vhost_connection.specs.State.{fresh as new_endpoint};
 ghost use Rattle.vhost_dummy_backend.specs.Dummy.{fresh as new_device};
 ghost use Rattle.vhost_protocol.specs.Session.{fresh as new_session};
 ghost use Rattle.vhost_protocol.specs.Stream.{plain};
 ghost use Rattle.vhost_promises.specs.Runs.{answer_of_link};
 ghost use Rattle.vhost_promises.specs.Served.{ServesThree, holding, three_requests};
-ghost use Rattle.vhost_endpoint.specs.Memory.{stream};
+ghost use Rattle.vhost_connection.specs.Memory.{stream};
 
 use crate::runs::serves_whole;
 use std::alloc::Global;
+use vhost_backend_req_handler::SessionCore;
+use vhost_connection::talks_law;
 use vhost_dummy_backend::DummyBackendReqHandler;
-use vhost_endpoint::talks_law;
 use vhost_link::{Cut, MemLink, PlainHandle};
 use vhost_message::{Error, Result};
-use vhost_serving::SessionCore;
 
 /// The example device, over links in memory.
 type Device = DummyBackendReqHandler<MemLink>;

@@ -6,8 +6,8 @@ ghost use Rattle.vhost_protocol.specs.FrontendCall as call;
 ghost use Rattle.vhost_promises.specs.Shared.{FindsSound, HasFailed, OwnAnswer};
 
 use std::sync::Wait;
+use vhost_backend::{Result, VhostBackend};
 use vhost_frontend::Frontend;
-use vhost_frontend_types::{Result, VhostBackend};
 use vhost_link::Link;
 
 /// Asks for the virtio features of the device. Where that succeeds, they were read as the answer to this caller's own request,

@@ -7,12 +7,12 @@ ghost use Rattle.vhost_protocol.specs.FrontendCall.{ConfigOf, GetConfig};
 ghost use Rattle.vhost_promises.specs.Runs.{answer_of_link};
 ghost use Rattle.vhost_promises.specs.Served.{features_reply};
 ghost use Rattle.vhost_promises.specs.StandardAsking.{GoesOnAsking, no_config, with_config};
-ghost use Rattle.vhost_endpoint.specs.Memory.{stream};
+ghost use Rattle.vhost_connection.specs.Memory.{stream};
 ghost use Rattle.vhost_protocol.specs.Stream.{plain};
 
 use crate::read::asks_features;
 use bitflags::Flags;
-use vhost_endpoint::talks_law;
+use vhost_connection::talks_law;
 use vhost_frontend::{Call, Quiet};
 use vhost_link::{Link, MemLink};
 use vhost_message::{Result, VhostUserConfig, VhostUserConfigFlags};

@@ -1,7 +1,7 @@
 //! Streams without a message.
 
 ghost use Rattle.std.specs.Prelude.{◌≡◌, [], List, Err};
-ghost use Rattle.vhost_serving.specs.Core.{endpoint_of, session_in};
+ghost use Rattle.vhost_backend_req_handler.specs.Core.{endpoint_of, session_in};
 ghost use Rattle.vhost_frontend_req_handler.specs.Core.{endpoint_of as endpoint_back, server_in};
 ghost use Rattle.vhost_link.specs.declared.plain.PlainHandle.{PlainHandle};
 ghost use Rattle.vhost_message.specs.BackendReq.{backend_request_of};
@@ -11,15 +11,15 @@ ghost use Rattle.vhost_protocol.specs.Reverse.{backend_allows_handles};
 ghost use Rattle.vhost_protocol.specs.Session.{heard_in};
 ghost use Rattle.vhost_protocol.specs.Split.{split};
 ghost use Rattle.vhost_protocol.specs.Stream.{Cell, plain};
-ghost use Rattle.vhost_endpoint.specs.Memory.{stream};
+ghost use Rattle.vhost_connection.specs.Memory.{stream};
 ghost use Rattle.vhost_promises.specs.Streams.{Refuses, in_header, in_body, in_body_back, other_version, other_version_back};
 
+use vhost_backend_req_handler::SessionCore;
+use vhost_connection::talks_law;
 use vhost_device::VhostUserBackendReqHandlerMut;
-use vhost_endpoint::talks_law;
 use vhost_frontend_req_handler::{FrontendReqCore, VhostUserFrontendReqHandlerMut};
 use vhost_link::{MemLink, PlainHandle};
 use vhost_message::Result;
-use vhost_serving::SessionCore;
 
 /// Serves one request where the stream has none, over every device and however the link splits it. It answers the error that the
 /// definitions make of this stream, leaves what they leave of it, writes nothing, and changes neither session nor device.

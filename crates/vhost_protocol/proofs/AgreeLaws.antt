@@ -7,8 +7,8 @@ use Rattle.std.specs.Int.Bits.{and_self}
 use Rattle.byteorder.specs.Numbers.{little_number-reads_back}
 use Rattle.vhost_message.specs.declared.limits.TheConstants.{MAX_MEM_REGIONS}
 use Rattle.vhost_message.specs.Bits.{has_bit}
-use Rattle.vhost_message.specs.declared.frontend_req.FrontendReq.{FrontendReq}
-use Rattle.vhost_message.specs.declared.frontend_req.FrontendReq.TheVariants.{GET_FEATURES, SET_FEATURES, SET_MEM_TABLE, SET_PROTOCOL_FEATURES, POSTCOPY_LISTEN, POSTCOPY_END, ADD_MEM_REG, GET_QUEUE_NUM}
+use Rattle.vhost_message.specs.declared.heard_req.HeardReq.{HeardReq}
+use Rattle.vhost_message.specs.declared.heard_req.HeardReq.TheVariants.{GET_FEATURES, SET_FEATURES, SET_MEM_TABLE, SET_PROTOCOL_FEATURES, POSTCOPY_LISTEN, POSTCOPY_END, ADD_MEM_REG, GET_QUEUE_NUM}
 use Rattle.vhost_message.specs.declared.postcopy.PostcopyState.TheVariants.{Advise, Listen, End}
 use Rattle.vhost_message.specs.declared.records.config.VhostUserConfig.{VhostUserConfig}
 use Rattle.vhost_message.specs.declared.records.inflight.VhostUserInflight.{VhostUserInflight}
@@ -51,11 +51,11 @@ module _ (H B G : Type 0) where
   abbrev Stays : Session → FrontendCall H → Asked H → Type 0
   Stays s call asked = StaysInStep B G s call asked
 
-  abbrev Row : FrontendCall H → Awaited → Frontend → FrontendReq → Session → Step H B G → Type 0
+  abbrev Row : FrontendCall H → Awaited → Frontend → HeardReq → Session → Step H B G → Type 0
   Row call awaited g r s next = AllKnown call awaited g r s next
 
   -- an error in silence is known, and the last step
-  known-silent : (call : FrontendCall H) (awaited : Awaited) (g : Frontend) (r : FrontendReq) (e : Error) (s : Session) → IsKnown call awaited g r (record { answer = Err e; served = Silent; session = s })
+  known-silent : (call : FrontendCall H) (awaited : Awaited) (g : Frontend) (r : HeardReq) (e : Error) (s : Session) → IsKnown call awaited g r (record { answer = Err e; served = Silent; session = s })
   known-silent call Nobody g r e s = record { to_caller = _; known = refl; agree = λ last. absurd (cc last) }
   known-silent call Ack g r e s = record { to_caller = _; known = refl; agree = λ last. absurd (cc last) }
   known-silent call (Reply shape) g r e s = record { to_caller = _; known = refl; agree = λ last. absurd (cc last) }
@@ -63,15 +63,15 @@ module _ (H B G : Type 0) where
   -- ---- tests
 
   -- a test that refuses in silence
-  known-then : (call : FrontendCall H) (awaited : Awaited) (g : Frontend) (r : FrontendReq) (s : Session) (b : Bool) (e : Error) (next : Step H B G) → Row call awaited g r s next → Row call awaited g r s (step.◌>>◌ (test b (silently e)) next)
+  known-then : (call : FrontendCall H) (awaited : Awaited) (g : Frontend) (r : HeardReq) (s : Session) (b : Bool) (e : Error) (next : Step H B G) → Row call awaited g r s next → Row call awaited g r s (step.◌>>◌ (test b (silently e)) next)
   known-then call awaited g r s true e next h = h
   known-then call awaited g r s false e next h = known-silent call awaited g r e s
 
-  known-if : (call : FrontendCall H) (awaited : Awaited) (g : Frontend) (r : FrontendReq) (s : Session) (A : Type 0) (b : Bool) (a : A) (e : Error) (next : A → Step H B G) → Row call awaited g r s (next a) → Row call awaited g r s (step.◌>>=◌ (cond b (Ok a) (Err (silently e))) next)
+  known-if : (call : FrontendCall H) (awaited : Awaited) (g : Frontend) (r : HeardReq) (s : Session) (A : Type 0) (b : Bool) (a : A) (e : Error) (next : A → Step H B G) → Row call awaited g r s (next a) → Row call awaited g r s (step.◌>>=◌ (cond b (Ok a) (Err (silently e))) next)
   known-if call awaited g r s A true a e next h = h
   known-if call awaited g r s A false a e next h = known-silent call awaited g r e s
 
-  known-cond : (call : FrontendCall H) (awaited : Awaited) (g : Frontend) (r : FrontendReq) (s : Session) (b : Bool) (x y : Step H B G) → Row call awaited g r s x → Row call awaited g r s y → Row call awaited g r s (cond b x y)
+  known-cond : (call : FrontendCall H) (awaited : Awaited) (g : Frontend) (r : HeardReq) (s : Session) (b : Bool) (x y : Step H B G) → Row call awaited g r s x → Row call awaited g r s y → Row call awaited g r s (cond b x y)
   known-cond call awaited g r s true x y h k = h
   known-cond call awaited g r s false x y h k = k
 
@@ -93,7 +93,7 @@ module _ (H B G : Type 0) where
       both false false n p h = refl
 
   -- an acknowledged answer
-  known-acked : (A : Type 0) (call : FrontendCall H) (g : Frontend) (r : FrontendReq) (s : Session) (b : Bool) (a : Result A Error) → (is_ok a ≡ true → AgreeOn (after_success g call) s) → (is_ok a ≡ false → is_end r ≡ false → AgreeOn g s)
+  known-acked : (A : Type 0) (call : FrontendCall H) (g : Frontend) (r : HeardReq) (s : Session) (b : Bool) (a : Result A Error) → (is_ok a ≡ true → AgreeOn (after_success g call) s) → (is_ok a ≡ false → is_end r ≡ false → AgreeOn g s)
       → IsKnown call (cond b Ack Nobody) g r (record { answer = step.done a; served = cond b (Acknowledged (is_ok a)) Silent; session = s })
   known-acked A call g r s true (Ok a) agreed refused = record { to_caller = _; known = refl; agree = λ last. agreed refl }
   known-acked A call g r s true (Err e) agreed refused = record { to_caller = _; known = refl; agree = λ last. refused refl last }
@@ -101,7 +101,7 @@ module _ (H B G : Type 0) where
   known-acked A call g r s false (Err e) agreed refused = record { to_caller = _; known = refl; agree = λ last. absurd (cc last) }
 
   -- the same, for a call that sends its session on
-  known-ack : (A : Type 0) (call : FrontendCall H) (f : Frontend) (t : Session) (w : Written FrontendReq H) (a : Result A Error) → awaited_ack f ≡ cond (ack_on t && needs_reply f) Ack Nobody → w.need_reply ≡ needs_reply f
+  known-ack : (A : Type 0) (call : FrontendCall H) (f : Frontend) (t : Session) (w : Written HeardReq H) (a : Result A Error) → awaited_ack f ≡ cond (ack_on t && needs_reply f) Ack Nobody → w.need_reply ≡ needs_reply f
       → (is_ok a ≡ true → AgreeOn (after_success f call) t) → (is_ok a ≡ false → is_end w.request ≡ false → AgreeOn f t)
       → IsKnown call (awaited_ack f) f w.request (with_ack t (read_as w) a)
   known-ack A call f t w a same wants agreed refused =
@@ -109,23 +109,23 @@ module _ (H B G : Type 0) where
       (known-acked A call f w.request t (ack_on t && w.need_reply) a agreed refused)
 
   -- and changes no session
-  known-same : (call : FrontendCall H) (f : Frontend) (s : Session) (r : FrontendReq) (payload : Payload) (handles : List H) (a : Result (Unit {0}) Error) → AgreeOn f s → IsNegotiated f → after_success f call ≡ f → IsKnown call (awaited_ack f) f r (with_ack s (read_as (message f r payload handles)) a)
+  known-same : (call : FrontendCall H) (f : Frontend) (s : Session) (r : HeardReq) (payload : Payload) (handles : List H) (a : Result (Unit {0}) Error) → AgreeOn f s → IsNegotiated f → after_success f call ≡ f → IsKnown call (awaited_ack f) f r (with_ack s (read_as (message f r payload handles)) a)
   known-same call f s r payload handles a agree on same = known-ack (Unit {0}) call f s (message f r payload handles) a (ack-agrees f s agree on) refl (λ h. subst (λ x. AgreeOn x s) (sym same) agree) (λ h last. agree)
 
   -- an error that is acknowledged
-  known-refused : (call : FrontendCall H) (f : Frontend) (s : Session) (r : FrontendReq) (payload : Payload) (handles : List H) (e : Error) (b : Bool) (next : Step H B G) → AgreeOn f s → IsNegotiated f → after_success f call ≡ f
+  known-refused : (call : FrontendCall H) (f : Frontend) (s : Session) (r : HeardReq) (payload : Payload) (handles : List H) (e : Error) (b : Bool) (next : Step H B G) → AgreeOn f s → IsNegotiated f → after_success f call ≡ f
       → Row call (awaited_ack f) f r s next → Row call (awaited_ack f) f r s (step.◌>>◌ (test b (acknowledged s (read_as (message f r payload handles)) e)) next)
   known-refused call f s r payload handles e true next agree on same h = h
   known-refused call f s r payload handles e false next agree on same h = known-same call f s r payload handles (Err e) agree on same
 
   -- a handle that may open no channel
-  known-channel : (C : Type 0) (call : FrontendCall H) (f : Frontend) (s : Session) (r : FrontendReq) (payload : Payload) (handles : List H) (opened : Result C Error) (next : C → Step H B G) → AgreeOn f s → IsNegotiated f → after_success f call ≡ f
+  known-channel : (C : Type 0) (call : FrontendCall H) (f : Frontend) (s : Session) (r : HeardReq) (payload : Payload) (handles : List H) (opened : Result C Error) (next : C → Step H B G) → AgreeOn f s → IsNegotiated f → after_success f call ≡ f
       → ((c : C) → Row call (awaited_ack f) f r s (next c)) → Row call (awaited_ack f) f r s (step.◌>>=◌ (channel s (read_as (message f r payload handles)) opened) next)
   known-channel C call f s r payload handles (Ok c) next agree on same h = h c
   known-channel C call f s r payload handles (Err e) next agree on same h = known-same call f s r payload handles (Err e) agree on same
 
   -- the handler's own answer goes nowhere
-  known-unwritten : (call : FrontendCall H) (awaited : Awaited) (f : Frontend) (s : Session) (r : FrontendReq) (a : Result (Unit {0}) Error) → AgreeOn f s → after_success f call ≡ f → IsKnown call awaited f r (step.unwritten s a)
+  known-unwritten : (call : FrontendCall H) (awaited : Awaited) (f : Frontend) (s : Session) (r : HeardReq) (a : Result (Unit {0}) Error) → AgreeOn f s → after_success f call ≡ f → IsKnown call awaited f r (step.unwritten s a)
   known-unwritten call Nobody f s r (Ok u) agree same = record { to_caller = _; known = refl; agree = λ last. subst (λ x. AgreeOn x s) (sym same) agree }
   known-unwritten call Ack f s r (Ok u) agree same = record { to_caller = _; known = refl; agree = λ last. agree }
   known-unwritten call (Reply shape) f s r (Ok u) agree same = record { to_caller = _; known = refl; agree = λ last. agree }
@@ -152,7 +152,7 @@ module _ (H B G : Type 0) where
   known-features f s (Err e) agree = known-silent GetFeatures (Reply shape.U64) f GET_FEATURES e s
 
   -- a reply whose answer changes no session
-  known-reply : (A : Type 0) (call : FrontendCall H) (shape : Shape) (f : Frontend) (s : Session) (r : FrontendReq) (payload : A → Payload) (a : Result A Error)
+  known-reply : (A : Type 0) (call : FrontendCall H) (shape : Shape) (f : Frontend) (s : Session) (r : HeardReq) (payload : A → Payload) (a : Result A Error)
       → ((x : A) → IsKnown call (Reply shape) f r (step.replied s (payload x) [])) → IsKnown call (Reply shape) f r (step.replied_or_silent s payload a)
   known-reply A call shape f s r payload (Ok x) h = h x
   known-reply A call shape f s r payload (Err e) h = known-silent call (Reply shape) f r e s
@@ -164,7 +164,7 @@ module _ (H B G : Type 0) where
       go true = record { offered = agree.offered; acked_protocol_features = agree.acked_protocol_features; postcopy = agree.postcopy; acked = agree.acked; profile = agree.profile }
       go false = agree
 
-  known-config : (call : FrontendCall H) (f : Frontend) (s : Session) (r : FrontendReq) (c : VhostUserConfig) (a : Result (List ℕ) Error)
+  known-config : (call : FrontendCall H) (f : Frontend) (s : Session) (r : HeardReq) (c : VhostUserConfig) (a : Result (List ℕ) Error)
       → ((d : VhostUserConfig) (bytes : List ℕ) → IsKnown call (Reply shape.Config) f r (step.replied s (ConfigBytes d bytes) [])) → IsKnown call (Reply shape.Config) f r (with_config s c a)
   known-config call f s r c (Ok bytes) h = go (length bytes == c.size)
     where
@@ -173,20 +173,20 @@ module _ (H B G : Type 0) where
       go false = h (record c { size = 0 }) []
   known-config call f s r c (Err e) h = h (record c { size = 0 }) []
 
-  known-object : (f : Frontend) (s : Session) (r : FrontendReq) (name : VhostUserSharedMsg) (a : Result H Error) → AgreeOn f s → IsKnown (GetSharedObject name) (Reply shape.Empty) f r (with_handle s a)
+  known-object : (f : Frontend) (s : Session) (r : HeardReq) (name : VhostUserSharedMsg) (a : Result H Error) → AgreeOn f s → IsKnown (GetSharedObject name) (Reply shape.Empty) f r (with_handle s a)
   known-object f s r name (Ok h) agree = record { to_caller = _; known = refl; agree = λ last. agree }
   known-object f s r name (Err e) agree = record { to_caller = _; known = refl; agree = λ last. agree }
 
-  known-inflight : (f : Frontend) (s : Session) (r : FrontendReq) (asked : VhostUserInflight) (a : Result (VhostUserInflight × H) Error) → AgreeOn f s → IsKnown (GetInflightFd asked) (Reply shape.Inflight) f r (with_inflight s a)
+  known-inflight : (f : Frontend) (s : Session) (r : HeardReq) (asked : VhostUserInflight) (a : Result (VhostUserInflight × H) Error) → AgreeOn f s → IsKnown (GetInflightFd asked) (Reply shape.Inflight) f r (with_inflight s a)
   known-inflight f s r asked (Ok x) agree = record { to_caller = _; known = refl; agree = λ last. agree }
   known-inflight f s r asked (Err e) agree = known-silent (GetInflightFd asked) (Reply shape.Inflight) f r e s
 
-  known-state : (f : Frontend) (s : Session) (r : FrontendReq) (t : VhostUserTransferDeviceState) (h : H) (a : Result (Option H) Error) → AgreeOn f s → IsKnown (SetDeviceStateFd t h) (Reply shape.U64) f r (with_state s a)
+  known-state : (f : Frontend) (s : Session) (r : HeardReq) (t : VhostUserTransferDeviceState) (h : H) (a : Result (Option H) Error) → AgreeOn f s → IsKnown (SetDeviceStateFd t h) (Reply shape.U64) f r (with_state s a)
   known-state f s r t h (Ok (Some g)) agree = record { to_caller = _; known = refl; agree = λ last. agree }
   known-state f s r t h (Ok None) agree = record { to_caller = _; known = refl; agree = λ last. agree }
   known-state f s r t h (Err e) agree = record { to_caller = _; known = refl; agree = λ last. agree }
 
-  known-check : (f : Frontend) (s : Session) (r : FrontendReq) (a : Result (Unit {0}) Error) → AgreeOn f s → IsKnown {H = H} CheckDeviceState (Reply shape.U64) f r (with_check s a)
+  known-check : (f : Frontend) (s : Session) (r : HeardReq) (a : Result (Unit {0}) Error) → AgreeOn f s → IsKnown {H = H} CheckDeviceState (Reply shape.U64) f r (with_check s a)
   known-check f s r (Ok u) agree = record { to_caller = _; known = refl; agree = λ last. agree }
   known-check f s r (Err e) agree = record { to_caller = _; known = refl; agree = λ last. agree }
 
@@ -202,7 +202,7 @@ module _ (H B G : Type 0) where
   simple-protocol_features : (f : Frontend) (s : Session) → AgreeOn f s → IsNegotiated f → Stays s GetProtocolFeatures (ask f GetProtocolFeatures)
   simple-protocol_features f s agree on = search (silent, known-reply, back) depth 12
     where
-      back : (r : FrontendReq) (n : ℕ) → IsKnown {H = H} GetProtocolFeatures (Reply shape.U64) f r (step.replied s (U64 n) [])
+      back : (r : HeardReq) (n : ℕ) → IsKnown {H = H} GetProtocolFeatures (Reply shape.U64) f r (step.replied s (U64 n) [])
       back r n = record { to_caller = _; known = refl; agree = λ last. agree }
 
   simple-queues : (f : Frontend) (s : Session) → AgreeOn f s → IsNegotiated f → Stays s GetQueueNum (ask f GetQueueNum)
@@ -211,25 +211,25 @@ module _ (H B G : Type 0) where
   simple-slots : (f : Frontend) (s : Session) → AgreeOn f s → IsNegotiated f → Stays s GetMaxMemSlots (ask f GetMaxMemSlots)
   simple-slots f s agree on = search (silent, known-reply, back) depth 12
     where
-      back : (r : FrontendReq) (n : ℕ) → IsKnown {H = H} GetMaxMemSlots (Reply shape.U64) f r (step.replied s (U64 n) [])
+      back : (r : HeardReq) (n : ℕ) → IsKnown {H = H} GetMaxMemSlots (Reply shape.U64) f r (step.replied s (U64 n) [])
       back r n = record { to_caller = _; known = refl; agree = λ last. agree }
 
   simple-get_base : (f : Frontend) (s : Session) (i : ℕ) → AgreeOn f s → IsNegotiated f → Stays s (GetVringBase i) (ask f (GetVringBase i))
   simple-get_base f s i agree on = search (silent, known-reply, back) depth 12
     where
-      back : (r : FrontendReq) (v : VhostUserVringState) → IsKnown {H = H} (GetVringBase i) (Reply shape.VringState) f r (step.replied s (RingState v) [])
+      back : (r : HeardReq) (v : VhostUserVringState) → IsKnown {H = H} (GetVringBase i) (Reply shape.VringState) f r (step.replied s (RingState v) [])
       back r v = record { to_caller = _; known = refl; agree = λ last. agree }
 
   simple-shmem : (f : Frontend) (s : Session) → AgreeOn f s → IsNegotiated f → Stays s GetShmemConfig (ask f GetShmemConfig)
   simple-shmem f s agree on = search (silent, known-reply, back) depth 12
     where
-      back : (r : FrontendReq) (c : VhostUserShMemConfig) → IsKnown {H = H} GetShmemConfig (Reply shape.ShMemConfig) f r (step.replied s (Shmem c) [])
+      back : (r : HeardReq) (c : VhostUserShMemConfig) → IsKnown {H = H} GetShmemConfig (Reply shape.ShMemConfig) f r (step.replied s (Shmem c) [])
       back r c = record { to_caller = _; known = refl; agree = λ last. agree }
 
   simple-log : (f : Frontend) (s : Session) (base : ℕ) (r : LogRegion H) → AgreeOn f s → IsNegotiated f → Stays s (SetLogBase base (Some r)) (ask f (SetLogBase base (Some r)))
   simple-log f s base r agree on = search (silent, known-reply, back) depth 12
     where
-      back : (q : FrontendReq) (l : VhostUserLog) → IsKnown {H = H} (SetLogBase base (Some r)) (Reply shape.Log) f q (step.replied s (LogArea l) [])
+      back : (q : HeardReq) (l : VhostUserLog) → IsKnown {H = H} (SetLogBase base (Some r)) (Reply shape.Log) f q (step.replied s (LogArea l) [])
       back q l = record { to_caller = _; known = refl; agree = λ last. agree }
 
   simple-no_log : (f : Frontend) (s : Session) (base : ℕ) → AgreeOn f s → IsNegotiated f → Stays s (SetLogBase base None) (ask f (SetLogBase base None))
@@ -238,7 +238,7 @@ module _ (H B G : Type 0) where
   simple-get_config : (f : Frontend) (s : Session) (o n flags : ℕ) (buffer : List ℕ) → AgreeOn f s → IsNegotiated f → Stays s (GetConfig o n flags buffer) (ask f (GetConfig o n flags buffer))
   simple-get_config f s o n flags buffer agree on = search (silent, known-config, back) depth 12
     where
-      back : (r : FrontendReq) (c : VhostUserConfig) (bytes : List ℕ) → IsKnown {H = H} (GetConfig o n flags buffer) (Reply shape.Config) f r (step.replied s (ConfigBytes c bytes) [])
+      back : (r : HeardReq) (c : VhostUserConfig) (bytes : List ℕ) → IsKnown {H = H} (GetConfig o n flags buffer) (Reply shape.Config) f r (step.replied s (ConfigBytes c bytes) [])
       back r c bytes = record { to_caller = _; known = refl; agree = λ last. agree }
 
   -- ---- postcopy
@@ -246,12 +246,12 @@ module _ (H B G : Type 0) where
   simple-advise : (f : Frontend) (s : Session) → AgreeOn f s → IsNegotiated f → Stays s PostcopyAdvise (ask f PostcopyAdvise)
   simple-advise f s agree on = search (silent, advised) depth 12
     where
-      advised : (r : FrontendReq) (a : Result H Error) → IsKnown PostcopyAdvise (Reply shape.Empty) f r (with_handle (if_agreed s Advise a) a)
+      advised : (r : HeardReq) (a : Result H Error) → IsKnown PostcopyAdvise (Reply shape.Empty) f r (with_handle (if_agreed s Advise a) a)
       advised r (Ok h) = record { to_caller = _; known = refl; agree = λ last. record { offered = agree.offered; acked_protocol_features = agree.acked_protocol_features; postcopy = refl; acked = agree.acked; profile = agree.profile } }
       advised r (Err e) = record { to_caller = _; known = refl; agree = λ last. agree }
 
   -- what the frontend waits for is what the handler writes, of a message that turns both
-  pub turn-agrees : (g : Frontend) (s : Session) (r : FrontendReq) → AgreeOn g s → IsNegotiated g → awaited_turn g ≡ cond (ack_on s && (turning {H = H} g r).need_reply) Ack Nobody
+  pub turn-agrees : (g : Frontend) (s : Session) (r : HeardReq) → AgreeOn g s → IsNegotiated g → awaited_turn g ≡ cond (ack_on s && (turning {H = H} g r).need_reply) Ack Nobody
   turn-agrees g s r agree on =
       both (has_bit g.acked_protocol_features REPLY_ACK) (has_bit g.offered PROTOCOL_FEATURES) (has_bit g.header_flags 3) (is_standard g.profile) on
       ∙ ap (λ x. cond (has_bit x PROTOCOL_FEATURES && has_bit g.acked_protocol_features REPLY_ACK && (turning {H = H} g r).need_reply) Ack Nobody) agree.offered
@@ -272,7 +272,7 @@ module _ (H B G : Type 0) where
   simple-listen : (f : Frontend) (s : Session) → AgreeOn f s → IsNegotiated f → Stays s PostcopyListen (ask f PostcopyListen)
   simple-listen f s agree on = search (silent, listened) depth 12
     where
-      w : Written FrontendReq H
+      w : Written HeardReq H
       w = turning f POSTCOPY_LISTEN
 
       turned : (t : Session) (a : Result (Unit {0}) Error) → (is_ok a ≡ true → AgreeOn (record f { postcopy = Listen }) (record s { postcopy = t.postcopy })) → (is_ok a ≡ false → AgreeOn f (record s { postcopy = t.postcopy }))
@@ -293,7 +293,7 @@ module _ (H B G : Type 0) where
       sent : Bool → Asked H
       sent p = frontend_feature f PAGEFAULT >> Sends (record (message f POSTCOPY_END Empty []) { need_reply = cond p (has_bit f.acked_protocol_features REPLY_ACK) (needs_reply f) }) (cond p (Reply shape.U64) (awaited_ack f)) f
 
-      w : Written FrontendReq H
+      w : Written HeardReq H
       w = message f POSTCOPY_END Empty []
 
       ended : (a : Result (Unit {0}) Error) → IsKnown PostcopyEnd (awaited_ack f) f POSTCOPY_END (with_ack (record s { postcopy = End }) (read_as w) a)
@@ -308,7 +308,7 @@ module _ (H B G : Type 0) where
       g : Frontend
       g = record f { acked = bit_and n f.offered }
 
-      w : Written FrontendReq H
+      w : Written HeardReq H
       w = message g SET_FEATURES (U64 n) []
 
       both : AgreeOn g (record s { acked = n })
@@ -324,7 +324,7 @@ module _ (H B G : Type 0) where
       g : Frontend
       g = record f { acked_protocol_features = n }
 
-      w : Written FrontendReq H
+      w : Written HeardReq H
       w = message g SET_PROTOCOL_FEATURES (U64 n) []
 
       both : AgreeOn g (record s { acked_protocol_features = n })
@@ -344,17 +344,17 @@ module _ (H B G : Type 0) where
   -- ---- regions
 
   -- where no acknowledgement is wanted, an error is silent
-  known-hushed : (call : FrontendCall H) (awaited : Awaited) (g : Frontend) (r : FrontendReq) (e : Error) (s : Session) (on agreed : Bool) → IsKnown call awaited g r (record { answer = Err e; served = cond (on && false) (Acknowledged agreed) Silent; session = s })
+  known-hushed : (call : FrontendCall H) (awaited : Awaited) (g : Frontend) (r : HeardReq) (e : Error) (s : Session) (on agreed : Bool) → IsKnown call awaited g r (record { answer = Err e; served = cond (on && false) (Acknowledged agreed) Silent; session = s })
   known-hushed call awaited g r e s true agreed = known-silent call awaited g r e s
   known-hushed call awaited g r e s false agreed = known-silent call awaited g r e s
 
-  known-hushed_then : (call : FrontendCall H) (awaited : Awaited) (g : Frontend) (s : Session) (r : FrontendReq) (payload : Payload) (handles : List H) (e : Error) (b : Bool) (next : Step H B G)
+  known-hushed_then : (call : FrontendCall H) (awaited : Awaited) (g : Frontend) (s : Session) (r : HeardReq) (payload : Payload) (handles : List H) (e : Error) (b : Bool) (next : Step H B G)
       → Row call awaited g r s next → Row call awaited g r s (step.◌>>◌ (test b (acknowledged s (read_as (unacknowledged g r payload handles)) e)) next)
   known-hushed_then call awaited g s r payload handles e true next h = h
   known-hushed_then call awaited g s r payload handles e false next h = known-hushed call awaited g r e s (ack_on s) false
 
   -- and so is an agreement
-  known-hushed_ack : (call : FrontendCall H) (g : Frontend) (s : Session) (r : FrontendReq) (payload : Payload) (handles : List H) (a : Result (Unit {0}) Error) → AgreeOn g s → after_success g call ≡ g
+  known-hushed_ack : (call : FrontendCall H) (g : Frontend) (s : Session) (r : HeardReq) (payload : Payload) (handles : List H) (a : Result (Unit {0}) Error) → AgreeOn g s → after_success g call ≡ g
       → IsKnown call Nobody g r (with_ack s (read_as (unacknowledged g r payload handles)) a)
   known-hushed_ack call g s r payload handles (Ok u) agree same = hush (ack_on s)
     where
@@ -364,14 +364,14 @@ module _ (H B G : Type 0) where
   known-hushed_ack call g s r payload handles (Err e) agree same = known-hushed call Nobody g r e s (ack_on s) false
 
   -- what a device answers about a region reaches no session
-  known-plain : (call : FrontendCall H) (f : Frontend) (s : Session) (r : FrontendReq) (payload : Payload) (handles : List H) (A : Type 0) (a : Result (Option A) Error) → AgreeOn f s → IsNegotiated f → after_success f call ≡ f → IsKnown call (awaited_ack f) f r (with_ack s (read_as (message f r payload handles)) a)
+  known-plain : (call : FrontendCall H) (f : Frontend) (s : Session) (r : HeardReq) (payload : Payload) (handles : List H) (A : Type 0) (a : Result (Option A) Error) → AgreeOn f s → IsNegotiated f → after_success f call ≡ f → IsKnown call (awaited_ack f) f r (with_ack s (read_as (message f r payload handles)) a)
   known-plain call f s r payload handles A a agree on same = known-ack (Option A) call f s (message f r payload handles) a (ack-agrees f s agree on) refl (λ h. subst (λ x. AgreeOn x s) (sym same) agree) (λ h last. agree)
 
   known-bases : (f : Frontend) (s : Session) (infos : List (Info H)) (payload : Payload) (handles : List H) (a : Result (Option (List ℕ)) Error) → AgreeOn f s
       → IsKnown (SetMemTable infos) (Reply shape.Memory) f SET_MEM_TABLE (with_bases s (read_as (unacknowledged f SET_MEM_TABLE payload handles)) (table (read_as (unacknowledged f SET_MEM_TABLE payload handles))) a)
   known-bases f s infos payload handles (Ok (Some bases)) agree = go (length bases == length (table m))
     where
-      m : Message FrontendReq H
+      m : Message HeardReq H
       m = read_as (unacknowledged f SET_MEM_TABLE payload handles)
 
       go : (b : Bool) → IsKnown (SetMemTable infos) (Reply shape.Memory) f SET_MEM_TABLE (cond b (step.replied s (Regions (rebased (table m) bases)) []) (step.failed_with s m BackendInternalError))
@@ -401,13 +401,13 @@ module _ (H B G : Type 0) where
       sent : Bool → Asked H
       sent b = cond b (asks_unacknowledged f SET_MEM_TABLE payload (handles_in infos) shape.Memory) (sends f SET_MEM_TABLE payload (handles_in infos))
 
-      listening : Message FrontendReq H → Bool → Step H B G
+      listening : Message HeardReq H → Bool → Step H B G
       listening m b = cond (b && length m.body == 8) (mapped_row s m) (step.◌>>◌ (test (is_valid_table s m) (acknowledged s m InvalidMessage)) (cond b (Calls (device.SetMemTable (table m) m.handles (Some true)) (with_bases s m (table m))) (Calls (device.SetMemTable (table m) m.handles (Some false)) (with_ack s m))))
 
-      aloud : Message FrontendReq H
+      aloud : Message HeardReq H
       aloud = read_as (message f SET_MEM_TABLE payload (handles_in infos))
 
-      hushed : Message FrontendReq H
+      hushed : Message HeardReq H
       hushed = read_as (unacknowledged f SET_MEM_TABLE payload (handles_in infos))
 
       go : (b : Bool) → b ≡ is_listen s.postcopy → Stays s (SetMemTable infos) (sent b)
@@ -420,7 +420,7 @@ module _ (H B G : Type 0) where
       payload : Payload
       payload = OneRegion (single_region info.region)
 
-      listening : Message FrontendReq H → Bool → H → Step H B G
+      listening : Message HeardReq H → Bool → H → Step H B G
       listening m b h = cond (b && length m.body == 8) (mapped_row s m) (step.◌>>=◌ (body 40 single_region_of always m)
           (λ r. cond b (Calls (device.AddMemRegion r h (Some true)) (with_base s m r)) (Calls (device.AddMemRegion r h (Some false)) (with_ack s m))))
 
@@ -434,10 +434,10 @@ module _ (H B G : Type 0) where
       sent h = go h (is_listen f.postcopy) (listens-alike f s agree)
 
   -- the frontend says that it has mapped the regions, and awaits nothing
-  simple-mapped : (f : Frontend) (s : Session) (r : FrontendReq) → AgreeOn f s → Stays s (PostcopyAckMemRegions r) (ask f (PostcopyAckMemRegions r))
+  simple-mapped : (f : Frontend) (s : Session) (r : HeardReq) → AgreeOn f s → Stays s (PostcopyAckMemRegions r) (ask f (PostcopyAckMemRegions r))
   simple-mapped f s SET_MEM_TABLE agree = go (is_listen s.postcopy)
     where
-      m : Message FrontendReq H
+      m : Message HeardReq H
       m = read_as (unacknowledged f SET_MEM_TABLE (U64 0) [])
 
       listening : Bool → Step H B G

@@ -1,7 +1,7 @@
 -- What holds of a row whatever its device answers, holds of each row that was met.
 use Rattle.std.proofs.Common.{◌≡◌, false, Option, Some, None, Result, refl, sym, ◌∙◌, ap, subst, ℤ}
 use Rattle.std.specs.Prelude.{is_some}
-use Rattle.vhost_message.specs.declared.frontend_req.FrontendReq.{FrontendReq}
+use Rattle.vhost_message.specs.declared.heard_req.HeardReq.{HeardReq}
 use Rattle.vhost_protocol.specs.Agreement.{KeepsMark, lasting, IsKnown, AllKnown, IsNegotiated, Fits, StaysInStep, is_settled_end}
 use Rattle.vhost_protocol.specs.Answering.{AnswersWell, AllWell, IsHeard, AllHeard, IsServed, StaysHeard}
 use Rattle.vhost_protocol.specs.Ask.{Sends, ask}
@@ -44,12 +44,12 @@ module _ {H B G Dev : Type 0} (gives : Dev → (c : Call H B G) → Answer c →
   followed-mark s d x o d' keeps f = ap (λ y. y.0) (followed-lasting s d x o d' keeps f)
 
   -- the profile stays, whatever is settled
-  pub met-profile : (s : Session) (m : Message FrontendReq H) (d : Dev) (o : Outcome H) (d' : Dev) → Meets gives opens_backend opens_gpu s d m o d' → o.session.profile ≡ s.profile
+  pub met-profile : (s : Session) (m : Message HeardReq H) (d : Dev) (o : Outcome H) (d' : Dev) → Meets gives opens_backend opens_gpu s d m o d' → o.session.profile ≡ s.profile
   met-profile s m d o d' met =
       ap (λ y. y.session.profile) met.2 ∙ settled-profile H s m met.0 ∙ ap (λ y. y.1) (followed-lasting s d (row s m) met.0 d' (rows-keep H B G m.request s m) met.1)
 
   -- the answer table knows what came
-  pub followed-known : (call : FrontendCall H) (awaited : Awaited) (g : Frontend) (r : FrontendReq) (s : Session) (d : Dev) (x : Step H B G) (o : Outcome H) (d' : Dev) → AllKnown call awaited g r s x → Followed s d x o d' → IsKnown call awaited g r o
+  pub followed-known : (call : FrontendCall H) (awaited : Awaited) (g : Frontend) (r : HeardReq) (s : Session) (d : Dev) (x : Step H B G) (o : Outcome H) (d' : Dev) → AllKnown call awaited g r s x → Followed s d x o d' → IsKnown call awaited g r o
   followed-known call awaited g r s d (Refused refusal) o d' known f = subst (λ y. IsKnown call awaited g r y) (sym f.0) known
   followed-known call awaited g r s d (Calls c next) o d' known f = subst (λ y. IsKnown call awaited g r y) (sym f.2) (known f.0)
   followed-known call awaited g r s d (OpensBackend h next) o d' known f = followed-known call awaited g r s d (next f.0) o d' (known f.0) f.2
@@ -63,21 +63,21 @@ module _ {H B G Dev : Type 0} (gives : Dev → (c : Call H B G) → Answer c →
   followed-good fits call s d (OpensGpu h next) o d' good f = followed-good fits call s d (next f.0) o d' (good f.0) f.2
 
   -- whoever waits is answered
-  pub followed-well : (s : Session) (m : Message FrontendReq H) (d : Dev) (x : Step H B G) (told : Outcome H) (d' : Dev) → AllWell s m x → Followed s d x told d' → AnswersWell s m (settled s m told)
+  pub followed-well : (s : Session) (m : Message HeardReq H) (d : Dev) (x : Step H B G) (told : Outcome H) (d' : Dev) → AllWell s m x → Followed s d x told d' → AnswersWell s m (settled s m told)
   followed-well s m d (Refused refusal) told d' well f = subst (λ y. AnswersWell s m (settled s m y)) (sym f.0) well
   followed-well s m d (Calls c next) told d' well f = subst (λ y. AnswersWell s m (settled s m y)) (sym f.2) (well f.0)
   followed-well s m d (OpensBackend h next) told d' well f = followed-well s m d (next f.0) told d' (well f.0) f.2
   followed-well s m d (OpensGpu h next) told d' well f = followed-well s m d (next f.0) told d' (well f.0) f.2
 
-  pub met-well : (s : Session) (m : Message FrontendReq H) (d : Dev) (o : Outcome H) (d' : Dev) → s.profile ≡ Standard → Meets gives opens_backend opens_gpu s d m o d' → AnswersWell s m o
+  pub met-well : (s : Session) (m : Message HeardReq H) (d : Dev) (o : Outcome H) (d' : Dev) → s.profile ≡ Standard → Meets gives opens_backend opens_gpu s d m o d' → AnswersWell s m o
   met-well s m d o d' e met = subst (λ y. AnswersWell s m y) (sym met.2) (followed-well s m d (row s m) met.0 d' (whoever-waits H B G s m e) met.1)
 
   -- under Vhost the row says all
-  pub met-row : (s : Session) (m : Message FrontendReq H) (d : Dev) (o : Outcome H) (d' : Dev) → s.profile ≡ Vhost → Meets gives opens_backend opens_gpu s d m o d' → Followed s d (row s m) o d'
+  pub met-row : (s : Session) (m : Message HeardReq H) (d : Dev) (o : Outcome H) (d' : Dev) → s.profile ≡ Vhost → Meets gives opens_backend opens_gpu s d m o d' → Followed s d (row s m) o d'
   met-row s m d o d' e met = subst (λ y. Followed s d (row s m) y d') (sym (met.2 ∙ settled-vhost H s m met.0 e)) met.1
 
   -- both sides know it
-  pub followed-heard : (call : FrontendCall H) (awaited : Awaited) (g : Frontend) (s : Session) (m : Message FrontendReq H) (d : Dev) (x : Step H B G) (told : Outcome H) (d' : Dev) → AllHeard call awaited g s m x → Followed s d x told d' → IsHeard call awaited g (settled s m told)
+  pub followed-heard : (call : FrontendCall H) (awaited : Awaited) (g : Frontend) (s : Session) (m : Message HeardReq H) (d : Dev) (x : Step H B G) (told : Outcome H) (d' : Dev) → AllHeard call awaited g s m x → Followed s d x told d' → IsHeard call awaited g (settled s m told)
   followed-heard call awaited g s m d (Refused refusal) told d' heard f = subst (λ y. IsHeard call awaited g (settled s m y)) (sym f.0) heard
   followed-heard call awaited g s m d (Calls c next) told d' heard f = subst (λ y. IsHeard call awaited g (settled s m y)) (sym f.2) (heard f.0)
   followed-heard call awaited g s m d (OpensBackend h next) told d' heard f = followed-heard call awaited g s m d (next f.0) told d' (heard f.0) f.2
@@ -90,7 +90,7 @@ module _ {H B G Dev : Type 0} (gives : Dev → (c : Call H B G) → Answer c →
   not-settled f _ e = refl
 
   -- the answer table knows what came, and both sides agree unless the run stops
-  pub met-known : (f : Frontend) (s : Session) (call : FrontendCall H) (w : Written FrontendReq H) (awaited : Awaited) (g : Frontend) (d : Dev) (o : Outcome H) (d' : Dev) → AgreeOn f s → IsNegotiated f → Fits call
+  pub met-known : (f : Frontend) (s : Session) (call : FrontendCall H) (w : Written HeardReq H) (awaited : Awaited) (g : Frontend) (d : Dev) (o : Outcome H) (d' : Dev) → AgreeOn f s → IsNegotiated f → Fits call
       → ask f call ≡ Sends w awaited g → Meets gives opens_backend opens_gpu s d (read_as w) o d' → IsServed s.profile call awaited g w.request o
   met-known f s call w awaited g d o d' agree on fits sent met = by-profile s.profile refl
     where
@@ -103,14 +103,14 @@ module _ {H B G Dev : Type 0} (gives : Dev → (c : Call H B G) → Answer c →
           subst (λ y. IsServed Standard call awaited g w.request y) (sym met.2) (record { to_caller = h.to_caller; known = h.known; agree = h.agree })
 
   -- a reply is one that the call may have
-  pub met-good : (fits : (old : Dev) (c : Call H B G) (a : Answer c) (new : Dev) → gives old c a new → AnswerFits c a) (f : Frontend) (s : Session) (call : FrontendCall H) (w : Written FrontendReq H) (awaited : Awaited) (g : Frontend) (d : Dev) (o : Outcome H) (d' : Dev) → f.profile ≡ s.profile → CallFits call
+  pub met-good : (fits : (old : Dev) (c : Call H B G) (a : Answer c) (new : Dev) → gives old c a new → AnswerFits c a) (f : Frontend) (s : Session) (call : FrontendCall H) (w : Written HeardReq H) (awaited : Awaited) (g : Frontend) (d : Dev) (o : Outcome H) (d' : Dev) → f.profile ≡ s.profile → CallFits call
       → ask f call ≡ Sends w awaited g → Meets gives opens_backend opens_gpu s d (read_as w) o d' → IsGoodReply call o.served
   met-good fits f s call w awaited g d o d' same small sent met =
       subst (λ y. IsGoodReply call y.served) (sym met.2) (settled-good H call s (read_as w) met.0 (λ e. subst (λ x. AskedRefusable H call x) sent (refusable H f call (same ∙ e) small))
       (followed-good fits call s d (row s (read_as w)) met.0 d' (subst (λ x. AskedWell B G s call x) sent (replies-well H B G f s call small)) met.1))
 
   -- a session that has not ended goes on, unless the run stops
-  pub met-alive : (s : Session) (w : Written FrontendReq H) (d : Dev) (o : Outcome H) (d' : Dev) → s.failed ≡ None → Meets gives opens_backend opens_gpu s d (read_as w) o d' → stops s.profile w.request o ≡ false → o.session.failed ≡ None
+  pub met-alive : (s : Session) (w : Written HeardReq H) (d : Dev) (o : Outcome H) (d' : Dev) → s.failed ≡ None → Meets gives opens_backend opens_gpu s d (read_as w) o d' → stops s.profile w.request o ≡ false → o.session.failed ≡ None
   met-alive s w d o d' none met goes_on = by-profile s.profile refl goes_on
     where
       nothing : (x : Option ℤ) → is_some x ≡ false → x ≡ None

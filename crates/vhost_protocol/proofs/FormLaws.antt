@@ -3,8 +3,8 @@ use Rattle.std.proofs.Common.{◌≡◌, ℕ, ◌+◌, ◌<◌, ◌^◌, Bool, t
 use Rattle.std.specs.Prelude.{nat_le, not, ⊤}
 use Rattle.std.proofs.lemmas.Bool.{le-leb}
 use Rattle.byteorder.specs.Numbers.{little_number-reads_back}
-use Rattle.vhost_message.specs.declared.frontend_req.FrontendReq.{FrontendReq}
-use Rattle.vhost_message.specs.declared.frontend_req.FrontendReq.TheVariants.{SET_MEM_TABLE, ADD_MEM_REG, GET_CONFIG, GET_INFLIGHT_FD, POSTCOPY_END, SET_DEVICE_STATE_FD, CHECK_DEVICE_STATE}
+use Rattle.vhost_message.specs.declared.heard_req.HeardReq.{HeardReq}
+use Rattle.vhost_message.specs.declared.heard_req.HeardReq.TheVariants.{SET_MEM_TABLE, ADD_MEM_REG, GET_CONFIG, GET_INFLIGHT_FD, POSTCOPY_END, SET_DEVICE_STATE_FD, CHECK_DEVICE_STATE}
 use Rattle.vhost_message.specs.declared.records.config.VhostUserConfig.{VhostUserConfig}
 use Rattle.vhost_message.specs.declared.records.inflight.VhostUserInflight.{VhostUserInflight}
 use Rattle.vhost_message.specs.declared.records.transfer.VhostUserTransferDeviceState.{VhostUserTransferDeviceState}
@@ -50,7 +50,7 @@ both-true false b h = absurd (cc h)
 
 module _ (H : Type 0) where
   -- a refusal of this request, in whatever form it has, is a reply that the call may have
-  abbrev pub Refusable : FrontendCall H → FrontendReq → List ℕ → Type 0
+  abbrev pub Refusable : FrontendCall H → HeardReq → List ℕ → Type 0
   Refusable call r body = (a : Result ⊤ Error) (t : Session) → IsGoodReply call (refused_reply r body (record { answer = a; served = Silent; session = t })).served
 
   -- whatever becomes of the call
@@ -129,17 +129,17 @@ module _ (H : Type 0) where
   one-of false n false true x y z w P hx hy hz hw = hz
   one-of false n false false x y z w P hx hy hz hw = hw
 
-  spoken-good : (call : FrontendCall H) (s t : Session) (m : Message FrontendReq H) (a : Result ⊤ Error) → Refusable call m.request m.body → IsGoodReply call (spoken s m (record { answer = a; served = Silent; session = t })).served
+  spoken-good : (call : FrontendCall H) (s t : Session) (m : Message HeardReq H) (a : Result ⊤ Error) → Refusable call m.request m.body → IsGoodReply call (spoken s m (record { answer = a; served = Silent; session = t })).served
   spoken-good call s t m a form =
       let o : Outcome H = record { answer = a; served = Silent; session = t } in
       one-of (awaits_reply s m) (not m.reply) (is_fatal m o) (awaits_ack m o) (refused_reply m.request m.body o) (ended o) (saying o (Acknowledged (is_ok a))) o (λ x. IsGoodReply call x.served) (form a t) tt tt tt
 
-  by-profile : (call : FrontendCall H) (s : Session) (m : Message FrontendReq H) (o : Outcome H) (p : Profile) (u : Bool) → (p ≡ Standard → Refusable call m.request m.body) → IsGoodReply call o.served
+  by-profile : (call : FrontendCall H) (s : Session) (m : Message HeardReq H) (o : Outcome H) (p : Profile) (u : Bool) → (p ≡ Standard → Refusable call m.request m.body) → IsGoodReply call o.served
       → IsGoodReply call (cond (is_standard p && u) (spoken s m (silenced o)) o).served
   by-profile call s m o Standard true form good = spoken-good call s o.session m o.answer (form refl)
   by-profile call s m o Standard false form good = good
   by-profile call s m o Vhost u form good = good
 
   -- what was a reply that the call may have still is one
-  pub settled-good : (call : FrontendCall H) (s : Session) (m : Message FrontendReq H) (o : Outcome H) → (s.profile ≡ Standard → Refusable call m.request m.body) → IsGoodReply call o.served → IsGoodReply call (settled s m o).served
+  pub settled-good : (call : FrontendCall H) (s : Session) (m : Message HeardReq H) (o : Outcome H) → (s.profile ≡ Standard → Refusable call m.request m.body) → IsGoodReply call o.served → IsGoodReply call (settled s m o).served
   settled-good call s m o form good = by-profile call s m o s.profile (is_unanswered (awaits_reply s m) o.served) form good

@@ -7,7 +7,7 @@ use Rattle.std.specs.List.{list_all}
 use Rattle.std.proofs.lemmas.List.{length-map, append-nil}
 use Rattle.std.proofs.lemmas.List.Elements.{All-head, All-tail, All-cons, All-nil}
 use Rattle.vhost_message.specs.declared.limits.TheConstants.{MAX_MEM_REGIONS, MAX_MSG_SIZE, VHOST_USER_CONFIG_SIZE}
-use Rattle.vhost_message.specs.declared.frontend_req.FrontendReq.{FrontendReq}
+use Rattle.vhost_message.specs.declared.heard_req.HeardReq.{HeardReq}
 use Rattle.vhost_message.specs.declared.records.config.VhostUserConfig.{VhostUserConfig}
 use Rattle.vhost_message.specs.declared.records.inflight.VhostUserInflight.{VhostUserInflight}
 use Rattle.vhost_message.specs.declared.records.log.VhostUserLog.{VhostUserLog}
@@ -23,7 +23,7 @@ use Rattle.vhost_protocol.specs.declared.asked.Awaited.{Awaited}
 use Rattle.vhost_protocol.specs.declared.asked.Awaited.TheVariants.{Nobody, Ack, Reply}
 use Rattle.vhost_protocol.specs.declared.asked.Shape.TheVariants as shape
 use Rattle.vhost_message.specs.Codes.{heard_by}
-use Rattle.vhost_message.specs.FrontendReq.{request_of, any_request, request_number, is_named, request_of-request_number, any-is_named}
+use Rattle.vhost_message.specs.HeardReq.{request_of, any_request, request_number, is_named, request_of-request_number, any-is_named}
 use Rattle.vhost_message.specs.Header.{Header}
 use Rattle.vhost_protocol.specs.AnswerTable.{Answered}
 use Rattle.vhost_protocol.specs.DeviceCall as device
@@ -32,7 +32,7 @@ use Rattle.vhost_protocol.specs.FrontendCall.{FrontendCall, GetFeatures, GetProt
 use Rattle.vhost_protocol.specs.Heard.{IsAwaitedBy, AsksPlainly, AwaitsItsShape, HearsTheAnswer, shape_of, CallFits, IsGoodReply, AllGood, AskedWell, RepliesWell}
 use Rattle.vhost_protocol.specs.Laws.{PayloadFits, IsReplyOf}
 use Rattle.vhost_message.specs.Bits.{has_bit}
-use Rattle.vhost_message.specs.declared.frontend_req.FrontendReq.TheVariants.{SET_LOG_BASE, SET_MEM_TABLE, ADD_MEM_REG, GET_CONFIG}
+use Rattle.vhost_message.specs.declared.heard_req.HeardReq.TheVariants.{SET_LOG_BASE, SET_MEM_TABLE, ADD_MEM_REG, GET_CONFIG}
 use Rattle.vhost_message.specs.declared.records.memory.VhostUserMemoryRegion.{VhostUserMemoryRegion}
 use Rattle.vhost_message.specs.declared.records.memory.VhostUserSingleMemoryRegion.{VhostUserSingleMemoryRegion}
 use Rattle.vhost_message.specs.Records.{log_of, log_text, single_region, single_region_of, single_region_text, memory_of, regions_of, region_text, config_of}
@@ -54,7 +54,7 @@ use Rattle.vhost_protocol.proofs.TakeShapes.{take-reply, take-nothing}
 use Rattle.vhost_protocol.proofs.RegionLaws.{head-read, regions-read}
 
 -- a request that has a name is heard in every session
-pub heard-named : (s : Session) (r : FrontendReq) → is_named r ≡ true → heard_in s (request_number r) ≡ Some r
+pub heard-named : (s : Session) (r : HeardReq) → is_named r ≡ true → heard_in s (request_number r) ≡ Some r
 heard-named s r named = go (is_standard s.profile)
   where
     go : (b : Bool) → heard_by request_of any_request b (request_number r) ≡ Some r
@@ -77,7 +77,7 @@ module _ (H B G : Type 0) where
   good-test call true e next h = h
   good-test call false e next h = tt
 
-  good-refused : (call : FrontendCall H) (s : Session) (m : Message FrontendReq H) (b : Bool) (e : Error) (next : Step H B G) → Good call next → Good call (step.◌>>◌ (test b (acknowledged s m e)) next)
+  good-refused : (call : FrontendCall H) (s : Session) (m : Message HeardReq H) (b : Bool) (e : Error) (next : Step H B G) → Good call next → Good call (step.◌>>◌ (test b (acknowledged s m e)) next)
   good-refused call s m true e next h = h
   good-refused call s m false e next h = good-ack call (ack_on s && m.need_reply) false
 
@@ -89,7 +89,7 @@ module _ (H B G : Type 0) where
   good-cond call true x y h k = h
   good-cond call false x y h k = k
 
-  good-channel : (C : Type 0) (call : FrontendCall H) (s : Session) (m : Message FrontendReq H) (opened : Result C Error) (next : C → Step H B G) → ((c : C) → Good call (next c)) → Good call (step.◌>>=◌ (channel s m opened) next)
+  good-channel : (C : Type 0) (call : FrontendCall H) (s : Session) (m : Message HeardReq H) (opened : Result C Error) (next : C → Step H B G) → ((c : C) → Good call (next c)) → Good call (step.◌>>=◌ (channel s m opened) next)
   good-channel C call s m (Ok c) next h = h c
   good-channel C call s m (Err e) next h = good-ack call (ack_on s && m.need_reply) false
 
@@ -217,7 +217,7 @@ module _ (H B G : Type 0) where
       call : FrontendCall H
       call = SetLogBase base (Some r)
 
-      sent : H → Message FrontendReq H
+      sent : H → Message HeardReq H
       sent h = read_as (message f SET_LOG_BASE (LogArea (log_area r)) (h ∷ []))
 
       l : VhostUserLog
@@ -233,7 +233,7 @@ module _ (H B G : Type 0) where
       row-good h = good-if_known call VhostUserLog (is_bare 16 (sent h) && is_valid_log l) l InvalidMessage (next h) (called h)
 
   -- the region comes back with the device's base
-  good-region : (s : Session) (m : Message FrontendReq H) (info : Info H) (r : VhostUserSingleMemoryRegion) → SingleRegionFits r → (a : Result (Option ℕ) Error) → IfOk a (λ o. IfSome o (λ base. base < 2 ^ 64)) → IsGoodReply (AddMemRegion info) (with_base s m r a).served
+  good-region : (s : Session) (m : Message HeardReq H) (info : Info H) (r : VhostUserSingleMemoryRegion) → SingleRegionFits r → (a : Result (Option ℕ) Error) → IfOk a (λ o. IfSome o (λ base. base < 2 ^ 64)) → IsGoodReply (AddMemRegion info) (with_base s m r a).served
   good-region s m info r fits (Ok (Some base)) small = (tt, (lit< tt, (fits.1.0, fits.1.1, small, fits.1.3)))
   good-region s m info r fits (Ok None) small = good-ack (AddMemRegion info) (ack_on s && m.need_reply) false
   good-region s m info r fits (Err e) small = good-ack (AddMemRegion info) (ack_on s && m.need_reply) false
@@ -247,7 +247,7 @@ module _ (H B G : Type 0) where
       read : SingleRegionFits r
       read = subst (λ x. SingleRegionFits x) (sym (single_region-reads_back (single_region info.region) (lit< tt, fits))) (lit< tt, fits)
 
-      region-good : (m : Message FrontendReq H) (a : Result (Option ℕ) Error) → IfOk a (λ o. IfSome o (λ base. base < 2 ^ 64)) → IsGoodReply (AddMemRegion info) (with_base s m r a).served
+      region-good : (m : Message HeardReq H) (a : Result (Option ℕ) Error) → IfOk a (λ o. IfSome o (λ base. base < 2 ^ 64)) → IsGoodReply (AddMemRegion info) (with_base s m r a).served
       region-good m a small = good-region s m info r read a small
 
   length-rebased : (rs : List VhostUserMemoryRegion) (bases : List ℕ) → length bases ≡ length rs → length (rebased rs bases) ≡ length rs
@@ -265,7 +265,7 @@ module _ (H B G : Type 0) where
       (rebased-fits rs bases (All-tail RegionFits r rs fits) (All-tail (λ base. base < 2 ^ 64) b bases small))
 
   -- the regions come back with the device's bases
-  good-table : (s : Session) (infos : List (Info H)) (m : Message FrontendReq H) → table m ≡ regions_in infos → 1 ≤ length infos → length infos ≤ MAX_MEM_REGIONS → All RegionFits (regions_in infos)
+  good-table : (s : Session) (infos : List (Info H)) (m : Message HeardReq H) → table m ≡ regions_in infos → 1 ≤ length infos → length infos ≤ MAX_MEM_REGIONS → All RegionFits (regions_in infos)
       → (a : Result (Option (List ℕ)) Error) → IfOk a (λ o. IfSome o (λ bases. All (λ base. base < 2 ^ 64) bases)) → IsGoodReply (SetMemTable infos) (with_bases s m (table m) a).served
   good-table s infos m same least most fits (Ok (Some bases)) small = go (length bases == length (table m)) refl
     where
@@ -281,7 +281,7 @@ module _ (H B G : Type 0) where
   good-table s infos m same least most fits (Err e) small = good-ack (SetMemTable infos) (ack_on s && m.need_reply) false
 
   -- the table is read as it was sent
-  table-read : (m : Message FrontendReq H) (rs : List VhostUserMemoryRegion) → m.body ≡ payload_text (Regions rs) → length rs ≤ MAX_MEM_REGIONS → All RegionFits rs → table m ≡ rs
+  table-read : (m : Message HeardReq H) (rs : List VhostUserMemoryRegion) → m.body ≡ payload_text (Regions rs) → length rs ≤ MAX_MEM_REGIONS → All RegionFits rs → table m ≡ rs
   table-read m rs text most fits =
       ap (λ bs. regions_of (memory_of bs).num_regions (drop 8 bs)) text
       ∙ ap (λ n. regions_of n (flat_map region_text rs)) (ap (λ x. x.num_regions) (head-read (length rs) most))
@@ -299,7 +299,7 @@ module _ (H B G : Type 0) where
       row-good : (r : Bool) (need_reply : Bool) → 1 ≤ n → n ≤ MAX_MEM_REGIONS → Good (SetMemTable infos) (row s (record { request = SET_MEM_TABLE; reply = r; need_reply = need_reply; body = payload_text payload; handles = handles_in infos }))
       row-good r need_reply least most = search (tests, bases-good) depth 12
         where
-          m : Message FrontendReq H
+          m : Message HeardReq H
           m = record { request = SET_MEM_TABLE; reply = r; need_reply = need_reply; body = payload_text payload; handles = handles_in infos }
 
           few : length (regions_in infos) ≤ MAX_MEM_REGIONS
@@ -316,10 +316,10 @@ module _ (H B G : Type 0) where
           ask-cond s (SetMemTable infos) (is_listen f.postcopy) _ _ (row-good (has_bit f.header_flags 2) false least most) (row-good (has_bit f.header_flags 2) (needs_reply f) least most)
 
   -- the frontend says that it has mapped the regions: nothing is replied
-  well-mapped : (f : Frontend) (s : Session) (r : FrontendReq) → Asks s (PostcopyAckMemRegions r) (ask f (PostcopyAckMemRegions r))
+  well-mapped : (f : Frontend) (s : Session) (r : HeardReq) → Asks s (PostcopyAckMemRegions r) (ask f (PostcopyAckMemRegions r))
   well-mapped f s SET_MEM_TABLE = go (is_listen s.postcopy)
     where
-      m : Message FrontendReq H
+      m : Message HeardReq H
       m = read_as (unacknowledged f SET_MEM_TABLE (U64 0) [])
 
       listening : Bool → Step H B G
@@ -352,7 +352,7 @@ module _ (H B G : Type 0) where
   good-config s o n k b buffer c same small valid (Err e) = let fits = config-fits c valid in (inl (refl, refl, refl), (fits.0, lit< tt, fits.2))
 
   -- what the test of the record and the bytes behind it says
-  area-parts : (m : Message FrontendReq H) → (not m.reply && is_valid_area m) ≡ true → (is_valid_config (config_of m.body) ≡ true) × (length m.body ≡ 12 + (config_of m.body).size)
+  area-parts : (m : Message HeardReq H) → (not m.reply && is_valid_area m) ≡ true → (is_valid_config (config_of m.body) ≡ true) × (length m.body ≡ 12 + (config_of m.body).size)
   area-parts m holds =
       let area = (both (not m.reply) (is_valid_area m) holds).1 in
       let parts = both (nat_le 12 (length m.body) && is_valid_config (config_of m.body)) (length m.body == 12 + (config_of m.body).size) area in
@@ -375,7 +375,7 @@ module _ (H B G : Type 0) where
       call : FrontendCall H
       call = GetConfig o n k buffer
 
-      m : Message FrontendReq H
+      m : Message HeardReq H
       m = read_as (message f GET_CONFIG (ConfigBytes (config o n k) buffer) [])
 
       c : VhostUserConfig

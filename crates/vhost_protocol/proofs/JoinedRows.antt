@@ -1,9 +1,9 @@
 -- Worked rows of frontend and handler together: each holds by computing.
 use Rattle.std.proofs.Common.{◌≡◌, ℕ, Bool, true, false, List, [], ◌∷◌, ◌++◌, replicate, Option, Some, None, Result, Ok, Err, refl}
 use Rattle.std.specs.Prelude.{codes, if◌then◌else◌, ◌==◌, nat_le}
-use Rattle.vhost_message.specs.FrontendReq.{request_number}
-use Rattle.vhost_message.specs.declared.frontend_req.FrontendReq.{FrontendReq}
-use Rattle.vhost_message.specs.declared.frontend_req.FrontendReq.TheVariants.{SET_MEM_TABLE, REM_MEM_REG, ADD_MEM_REG}
+use Rattle.vhost_message.specs.HeardReq.{request_number}
+use Rattle.vhost_message.specs.declared.heard_req.HeardReq.{HeardReq}
+use Rattle.vhost_message.specs.declared.heard_req.HeardReq.TheVariants.{SET_MEM_TABLE, REM_MEM_REG, ADD_MEM_REG}
 use Rattle.vhost_message.specs.declared.postcopy.PostcopyState.TheVariants.{Listen, End, Advise}
 use Rattle.vhost_protocol.specs.AnswerTable.{Answered, answer}
 use Rattle.vhost_protocol.specs.Ask.{Asked, Refuses, Answers, Sends, ask}
@@ -30,7 +30,7 @@ record Line : Type 0 where
   session : Session
   last : Bool
 
-text_of : Option (Written FrontendReq ℕ) → List ℕ × List ℕ
+text_of : Option (Written HeardReq ℕ) → List ℕ × List ℕ
 text_of None = ([], [])
 text_of (Some w) = (written_text request_number w, w.handles)
 
@@ -48,7 +48,7 @@ outcome_of gives s (OpensGpu h next) = outcome_of gives s (next (opens h))
 line : ((c : Call ℕ ℕ ℕ) → Answer c) → Frontend → Session → FrontendCall ℕ → Line
 line gives f s call = go (ask f call)
   where
-    shown : Written FrontendReq ℕ → Outcome ℕ → Option (Answered ℕ) → Line
+    shown : Written HeardReq ℕ → Outcome ℕ → Option (Answered ℕ) → Line
     shown w o (Some a) = record { request = text_of (Some w); reply = text_of (reply w.request o.served); result = Some a.result; frontend = a.session; session = o.session; last = is_last w.request o }
     shown w o None = record { request = text_of (Some w); reply = text_of (reply w.request o.served); result = None; frontend = f; session = o.session; last = is_last w.request o }
 

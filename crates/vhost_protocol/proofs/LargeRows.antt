@@ -1,20 +1,20 @@
 -- Worked rows on large messages: each holds by computing.
 use Rattle.std.proofs.Common.{◌≡◌, ℕ, List, [], ◌∷◌, ◌++◌, replicate, length, Result, Ok, Err, refl}
-use Rattle.vhost_message.specs.FrontendReq.{request_of}
+use Rattle.vhost_message.specs.HeardReq.{request_of}
 use Rattle.vhost_message.specs.Header.{header_text}
 use Rattle.vhost_message.specs.Records.{shmem_config_text, shmem_config_of}
-use Rattle.vhost_message.specs.declared.frontend_req.FrontendReq.{FrontendReq}
+use Rattle.vhost_message.specs.declared.heard_req.HeardReq.{HeardReq}
 use Rattle.vhost_message.specs.declared.records.shmem.VhostUserShMemConfig.{VhostUserShMemConfig}
 use Rattle.vhost_protocol.specs.Codes.{allows_handles}
 use Rattle.vhost_protocol.specs.Error.{Error, InvalidMessage}
 use Rattle.vhost_protocol.specs.Split.{Message, split, split_after, split_body, body_outcome}
 use Rattle.vhost_protocol.specs.Stream.{Cell, plain, carrying}
 
-cut : List (Cell ℕ) → Result (Message FrontendReq ℕ) Error × List (Cell ℕ)
+cut : List (Cell ℕ) → Result (Message HeardReq ℕ) Error × List (Cell ℕ)
 cut = split request_of allows_handles
 
 -- a body of 4096 bytes
-size_of : Result (Message FrontendReq ℕ) Error → ℕ
+size_of : Result (Message HeardReq ℕ) Error → ℕ
 size_of (Ok m) = length m.body
 size_of (Err e) = 0
 

@@ -1,8 +1,8 @@
 -- Both sides under Standard: no stop in silence.
 use Rattle.std.proofs.Common.{◌≡◌, ℕ, length, Bool, true, false, cond, ◌&&◌, ◌||◌, List, [], ◌∷◌, Option, Some, None, Result, Ok, Err, refl, sym, ap, ◌∙◌, subst, is_ok, bit_and, ◌<◌, ◌^◌}
 use Rattle.std.specs.Prelude.{◌==◌, not, is_err, codes, ⊤}
-use Rattle.vhost_message.specs.declared.frontend_req.FrontendReq.{FrontendReq}
-use Rattle.vhost_message.specs.declared.frontend_req.FrontendReq.TheVariants.{SET_FEATURES, SET_PROTOCOL_FEATURES, POSTCOPY_LISTEN, POSTCOPY_END, SET_MEM_TABLE, ADD_MEM_REG, SET_LOG_BASE}
+use Rattle.vhost_message.specs.declared.heard_req.HeardReq.{HeardReq}
+use Rattle.vhost_message.specs.declared.heard_req.HeardReq.TheVariants.{SET_FEATURES, SET_PROTOCOL_FEATURES, POSTCOPY_LISTEN, POSTCOPY_END, SET_MEM_TABLE, ADD_MEM_REG, SET_LOG_BASE}
 use Rattle.vhost_message.specs.declared.records.config.VhostUserConfig.{VhostUserConfig}
 use Rattle.vhost_message.specs.declared.records.inflight.VhostUserInflight.{VhostUserInflight}
 use Rattle.vhost_message.specs.declared.records.memory.VhostUserMemoryRegion.{VhostUserMemoryRegion}
@@ -27,9 +27,9 @@ use Rattle.vhost_protocol.specs.Ask.{Asked, Refuses, Answers, Sends, ask, sends,
 use Rattle.vhost_protocol.specs.declared.asked.Awaited.{Awaited}
 use Rattle.vhost_protocol.specs.declared.asked.Awaited.TheVariants.{Nobody, Ack, Reply}
 use Rattle.vhost_protocol.specs.DeviceCall as device
-use Rattle.vhost_protocol.specs.DeviceCall.{Call, Answer}
+use Rattle.vhost_protocol.specs.DeviceCall.{Answer}
 use Rattle.vhost_protocol.specs.Error.{Error, InvalidMessage, InvalidOperation, InactiveFeature, InactiveOperation, BackendInternalError, test}
-use Rattle.vhost_protocol.specs.FrontendCall.{FrontendCall, GetConfig, GetInflightFd, GetSharedObject, PostcopyAdvise, PostcopyListen, PostcopyEnd, PostcopyAckMemRegions, SetDeviceStateFd, CheckDeviceState, SetFeatures, SetProtocolFeatures, SetMemTable, AddMemRegion, SetLogBase, LogRegion, SetVringCall, SetVringKick, SetVringErr, SetHdrFlags, Frontend}
+use Rattle.vhost_protocol.specs.FrontendCall.{FrontendCall, GetConfig, GetInflightFd, GetSharedObject, PostcopyAdvise, PostcopyListen, PostcopyEnd, PostcopyAckMemRegions, SetDeviceStateFd, CheckDeviceState, SetFeatures, SetProtocolFeatures, SetLogBase, LogRegion, SetVringCall, SetVringKick, SetVringErr, SetHdrFlags, Frontend}
 use Rattle.vhost_protocol.specs.Joined.{AgreeOn, is_end, read_as}
 use Rattle.vhost_message.specs.Bits.{has_bit}
 use Rattle.vhost_protocol.specs.Features.{LOG_SHMFD, PROTOCOL_FEATURES, PAGEFAULT}
@@ -56,11 +56,11 @@ module _ (H : Type 0) where
   pick false n false false x y z w P hx hy hz hw = hw refl refl
 
   -- What a call awaits is what its request is answered with: the form that refuses is known, or an acknowledgement comes where one is awaited.
-  pub record IsAwaitedWell (call : FrontendCall H) (awaited : Awaited) (g : Frontend) (s : Session) (m : Message FrontendReq H) : Type 0 where
+  pub record IsAwaitedWell (call : FrontendCall H) (awaited : Awaited) (g : Frontend) (s : Session) (m : Message HeardReq H) : Type 0 where
     pub own : awaits_reply s m ≡ true → not m.reply ≡ true → (a : Result ⊤ Error) → IsHeard call awaited g (refused_reply m.request m.body (record { answer = a; served = Silent; session = s }))
     pub acks : awaits_reply s m ≡ false → (ack_on s && m.need_reply) ≡ true → awaited ≡ Ack
 
-  module _ (call : FrontendCall H) (awaited : Awaited) (g : Frontend) (s : Session) (m : Message FrontendReq H) (agree : AgreeOn g s) (same : after_success g call ≡ g) (other : is_end m.request ≡ false) (well : IsAwaitedWell call awaited g s m) where
+  module _ (call : FrontendCall H) (awaited : Awaited) (g : Frontend) (s : Session) (m : Message HeardReq H) (agree : AgreeOn g s) (same : after_success g call ≡ g) (other : is_end m.request ≡ false) (well : IsAwaitedWell call awaited g s m) where
     -- an acknowledgement that is awaited
     acked : (a : Result ⊤ Error) → IsHeard call Ack g (record { answer = a; served = Acknowledged (is_ok a); session = s })
     acked (Ok u) = record { to_caller = _; known = refl; agree = λ goes_on. subst (λ x. AgreeOn x s) (sym same) agree }
@@ -118,7 +118,7 @@ module _ (H B G : Type 0) where
   AllQuiet s (OpensGpu h next) = (opened : Result G Error) → AllQuiet s (next opened)
 
   -- the four requests that turn the session
-  abbrev is_plain : FrontendReq → Bool
+  abbrev is_plain : HeardReq → Bool
   is_plain SET_FEATURES = false
   is_plain SET_PROTOCOL_FEATURES = false
   is_plain POSTCOPY_LISTEN = false
@@ -170,12 +170,12 @@ module _ (H B G : Type 0) where
       go false = refl
   quiet-config s c (Err e) h = refl
 
-  quiet-base : (s : Session) (m : Message FrontendReq H) (r : VhostUserSingleMemoryRegion) (a : Result (Option ℕ) Error) → is_replied (with_base s m r a).served ≡ false → (with_base s m r a).session ≡ s
+  quiet-base : (s : Session) (m : Message HeardReq H) (r : VhostUserSingleMemoryRegion) (a : Result (Option ℕ) Error) → is_replied (with_base s m r a).served ≡ false → (with_base s m r a).session ≡ s
   quiet-base s m r (Ok (Some base)) h = refl
   quiet-base s m r (Ok None) h = refl
   quiet-base s m r (Err e) h = refl
 
-  quiet-bases : (s : Session) (m : Message FrontendReq H) (regions : List VhostUserMemoryRegion) (a : Result (Option (List ℕ)) Error) → is_replied (with_bases s m regions a).served ≡ false → (with_bases s m regions a).session ≡ s
+  quiet-bases : (s : Session) (m : Message HeardReq H) (regions : List VhostUserMemoryRegion) (a : Result (Option (List ℕ)) Error) → is_replied (with_bases s m regions a).served ≡ false → (with_bases s m regions a).session ≡ s
   quiet-bases s m regions (Ok (Some bases)) h = go (length bases == length regions)
     where
       go : (b : Bool) → (cond b (replied s (Regions (rebased regions bases)) []) (failed_with s m BackendInternalError)).session ≡ s
@@ -186,7 +186,7 @@ module _ (H B G : Type 0) where
 
   ruleset quiet = (quiet-then, quiet-bind, quiet-if, quiet-number, quiet-handle, quiet-inflight, quiet-state, quiet-check, quiet-features, quiet-config, quiet-base, quiet-bases)
 
-  rows-quiet : (r : FrontendReq) (s : Session) (m : Message FrontendReq H) → is_plain r ≡ true → AllQuiet s (row_of r s m)
+  rows-quiet : (r : HeardReq) (s : Session) (m : Message HeardReq H) → is_plain r ≡ true → AllQuiet s (row_of r s m)
   rows-quiet SET_FEATURES s m e = absurd (cc e)
   rows-quiet SET_PROTOCOL_FEATURES s m e = absurd (cc e)
   rows-quiet POSTCOPY_LISTEN s m e = absurd (cc e)
@@ -196,7 +196,7 @@ module _ (H B G : Type 0) where
 
   -- ---- from the table to what is settled
 
-  all-heard : (call : FrontendCall H) (awaited : Awaited) (g : Frontend) (s : Session) (m : Message FrontendReq H) → s.profile ≡ Standard → AgreeOn g s → after_success g call ≡ g → is_end m.request ≡ false → IsAwaitedWell H call awaited g s m
+  all-heard : (call : FrontendCall H) (awaited : Awaited) (g : Frontend) (s : Session) (m : Message HeardReq H) → s.profile ≡ Standard → AgreeOn g s → after_success g call ≡ g → is_end m.request ≡ false → IsAwaitedWell H call awaited g s m
       → (x : Step H B G) → AllKnown call awaited g m.request s x → AllQuiet s x → AllHeard call awaited g s m x
   all-heard call awaited g s m e agree same other well (Refused refusal) known quiet = settled-heard H call awaited g s m agree same other well e _ (λ h. refl) known
   all-heard call awaited g s m e agree same other well (Calls c next) known quiet = λ a. settled-heard H call awaited g s m agree same other well e (next a) (quiet a) (known a)
@@ -228,12 +228,12 @@ module _ (H B G : Type 0) where
   sent-cond s call false x y h k = k
 
   -- one that may be acknowledged
-  sent-plain : (call : FrontendCall H) (f : Frontend) (s : Session) (r : FrontendReq) (payload : Payload) (handles : List H) → AgreeOn f s → IsNegotiated f → after_success f call ≡ f → is_end r ≡ false → is_plain r ≡ true
+  sent-plain : (call : FrontendCall H) (f : Frontend) (s : Session) (r : HeardReq) (payload : Payload) (handles : List H) → AgreeOn f s → IsNegotiated f → after_success f call ≡ f → is_end r ≡ false → is_plain r ≡ true
       → has_reply r s (length (payload_text payload)) ≡ false → SentWell s call (sends f r payload handles)
   sent-plain call f s r payload handles agree on same other plain none = (agree, same, other, plain, record { own = λ waits. absurd (cc (sym none ∙ waits)); acks = λ none wants. ack-agrees H B G f s agree on ∙ ap (λ x. cond x Ack Nobody) wants })
 
   -- one that has a reply
-  sent-asked : (call : FrontendCall H) (f : Frontend) (s : Session) (r : FrontendReq) (payload : Payload) (handles : List H) (shape : Shape) → AgreeOn f s → after_success f call ≡ f → is_end r ≡ false → is_plain r ≡ true
+  sent-asked : (call : FrontendCall H) (f : Frontend) (s : Session) (r : HeardReq) (payload : Payload) (handles : List H) (shape : Shape) → AgreeOn f s → after_success f call ≡ f → is_end r ≡ false → is_plain r ≡ true
       → has_reply r s (length (payload_text payload)) ≡ true
       → ((a : Result ⊤ Error) → IsHeard call (Reply shape) f (refused_reply r (payload_text payload) (record { answer = a; served = Silent; session = s }))) → SentWell s call (asks f r payload handles shape)
   sent-asked call f s r payload handles shape agree same other plain own form = (agree, same, other, plain, record { own = λ waits plainly. form; acks = λ none wants. absurd (cc (sym own ∙ none)) })
@@ -248,25 +248,25 @@ module _ (H B G : Type 0) where
   heard-over call (Reply shape) f s a = record { to_caller = _; known = refl; agree = λ goes_on. absurd (cc goes_on) }
 
   -- the requests of regions and of the log, whose refusals end the session where they have a reply
-  abbrev is_of_regions : FrontendReq → Bool
+  abbrev is_of_regions : HeardReq → Bool
   is_of_regions SET_MEM_TABLE = true
   is_of_regions ADD_MEM_REG = true
   is_of_regions SET_LOG_BASE = true
   is_of_regions _ = false
 
-  over : (r : FrontendReq) → is_of_regions r ≡ true → (call : FrontendCall H) (awaited : Awaited) (f : Frontend) (s : Session) (body : List ℕ) (a : Result ⊤ Error) → IsHeard call awaited f (refused_reply r body (record { answer = a; served = Silent; session = s }))
+  over : (r : HeardReq) → is_of_regions r ≡ true → (call : FrontendCall H) (awaited : Awaited) (f : Frontend) (s : Session) (body : List ℕ) (a : Result ⊤ Error) → IsHeard call awaited f (refused_reply r body (record { answer = a; served = Silent; session = s }))
   over SET_MEM_TABLE e call awaited f s body a = heard-over call awaited f s a
   over ADD_MEM_REG e call awaited f s body a = heard-over call awaited f s a
   over SET_LOG_BASE e call awaited f s body a = heard-over call awaited f s a
   over _ e call awaited f s body a = absurd (cc e)
 
-  plain-regions : (r : FrontendReq) → is_of_regions r ≡ true → (is_end r ≡ false) × (is_plain r ≡ true)
+  plain-regions : (r : HeardReq) → is_of_regions r ≡ true → (is_end r ≡ false) × (is_plain r ≡ true)
   plain-regions SET_MEM_TABLE e = (refl, refl)
   plain-regions ADD_MEM_REG e = (refl, refl)
   plain-regions SET_LOG_BASE e = (refl, refl)
   plain-regions _ e = absurd (cc e)
 
-  sent-regions : (call : FrontendCall H) (f : Frontend) (s : Session) (r : FrontendReq) (payload : Payload) (handles : List H) → is_of_regions r ≡ true → AgreeOn f s → IsNegotiated f → after_success f call ≡ f → SentWell s call (sends f r payload handles)
+  sent-regions : (call : FrontendCall H) (f : Frontend) (s : Session) (r : HeardReq) (payload : Payload) (handles : List H) → is_of_regions r ≡ true → AgreeOn f s → IsNegotiated f → after_success f call ≡ f → SentWell s call (sends f r payload handles)
   sent-regions call f s r payload handles e agree on same =
       let p = plain-regions r e in
       (agree, same, p.0, p.1, record { own = λ waits plainly a. over r e call _ f s _ a; acks = λ none wants. ack-agrees H B G f s agree on ∙ ap (λ x. cond x Ack Nobody) wants })
@@ -275,7 +275,7 @@ module _ (H B G : Type 0) where
   not-quiet true e = cc e
   not-quiet false e = cc e
 
-  sent-quietly : (call : FrontendCall H) (awaited : Awaited) (f : Frontend) (s : Session) (r : FrontendReq) (payload : Payload) (handles : List H) → is_of_regions r ≡ true → AgreeOn f s → after_success f call ≡ f → SentWell s call (Sends (unacknowledged f r payload handles) awaited f)
+  sent-quietly : (call : FrontendCall H) (awaited : Awaited) (f : Frontend) (s : Session) (r : HeardReq) (payload : Payload) (handles : List H) → is_of_regions r ≡ true → AgreeOn f s → after_success f call ≡ f → SentWell s call (Sends (unacknowledged f r payload handles) awaited f)
   sent-quietly call awaited f s r payload handles e agree same =
       let p = plain-regions r e in
       (agree, same, p.0, p.1, record { own = λ waits plainly a. over r e call _ f s _ a; acks = λ none wants. absurd (not-quiet (ack_on s) wants) })
@@ -331,24 +331,18 @@ module _ (H B G : Type 0) where
   is_unturned PostcopyEnd = false
   is_unturned _ = true
 
+  ruleset well = (sent, sent-regions, sent-quietly, form-config, form-inflight, form-object, form-advise, form-state, form-check)
+
   sent-well : (f : Frontend) (s : Session) (call : FrontendCall H) → is_unturned call ≡ true → f.profile ≡ Standard → AgreeOn f s → IsNegotiated f → SentWell s call (ask f call)
   sent-well f s (SetFeatures n) e p agree on = absurd (cc e)
   sent-well f s (SetProtocolFeatures n) e p agree on = absurd (cc e)
   sent-well f s PostcopyListen e p agree on = absurd (cc e)
   sent-well f s PostcopyEnd e p agree on = absurd (cc e)
-  sent-well f s (SetMemTable infos) e p agree on = search (sent, sent-regions, sent-quietly) depth 12
-  sent-well f s (AddMemRegion info) e p agree on = search (sent, sent-regions, sent-quietly) depth 12
   sent-well f s (SetLogBase base None) e p agree on = sent-base (SetLogBase base None) f s base p agree on refl
   sent-well f s (SetLogBase base (Some r)) e p agree on = sent-log f s base r p agree on
   sent-well f s (PostcopyAckMemRegions SET_MEM_TABLE) e p agree on = search (sent, sent-quietly) depth 12
   sent-well f s (PostcopyAckMemRegions ADD_MEM_REG) e p agree on = search (sent, sent-quietly) depth 12
   sent-well f s (PostcopyAckMemRegions _) e p agree on = tt
-  sent-well f s (GetConfig o n flags buffer) e p agree on = search (sent, form-config) depth 12
-  sent-well f s (GetInflightFd i) e p agree on = search (sent, form-inflight) depth 12
-  sent-well f s (GetSharedObject name) e p agree on = search (sent, form-object) depth 12
-  sent-well f s PostcopyAdvise e p agree on = search (sent, form-advise) depth 12
-  sent-well f s (SetDeviceStateFd t h) e p agree on = search (sent, form-state) depth 12
-  sent-well f s CheckDeviceState e p agree on = search (sent, form-check) depth 12
   sent-well f s (SetVringCall i None) e p agree on = search sent depth 12
   sent-well f s (SetVringCall i (Some h)) e p agree on = search sent depth 12
   sent-well f s (SetVringKick i None) e p agree on = search sent depth 12
@@ -356,7 +350,7 @@ module _ (H B G : Type 0) where
   sent-well f s (SetVringErr i None) e p agree on = search sent depth 12
   sent-well f s (SetVringErr i (Some h)) e p agree on = search sent depth 12
   sent-well f s (SetHdrFlags flags) e p agree on = tt
-  sent-well f s _ e p agree on = search sent depth 12
+  sent-well f s _ e p agree on = search well depth 12
 
   -- ---- calls that change what both sides agree on as they are sent
 
@@ -369,7 +363,7 @@ module _ (H B G : Type 0) where
   pick4 false n false true x y z w P hx hy hz hw = hz refl refl
   pick4 false n false false x y z w P hx hy hz hw = hw refl refl
 
-  module _ (call : FrontendCall H) (g : Frontend) (s t : Session) (m : Message FrontendReq H) (standard : s.profile ≡ Standard) (none : awaits_reply s m ≡ false) where
+  module _ (call : FrontendCall H) (g : Frontend) (s t : Session) (m : Message HeardReq H) (standard : s.profile ≡ Standard) (none : awaits_reply s m ≡ false) where
     abbrev silence : Result ⊤ Error → Outcome H
     silence a = record { answer = a; served = Silent; session = t }
 
@@ -421,7 +415,7 @@ module _ (H B G : Type 0) where
         go false e a agreed = subst (λ b. IsHeard call (cond b Ack Nobody) g (settled s m (plain-done a Silent))) e (silently-so a agreed)
 
   -- a message that is itself a reply is refused, and ends the session
-  refused-reply : (call : FrontendCall H) (awaited : Awaited) (g : Frontend) (s : Session) (m : Message FrontendReq H) (e : Error) → s.profile ≡ Standard → awaits_reply s m ≡ false → m.reply ≡ true → IsHeard call awaited g (settled s m (record { answer = Err e; served = Silent; session = s }))
+  refused-reply : (call : FrontendCall H) (awaited : Awaited) (g : Frontend) (s : Session) (m : Message HeardReq H) (e : Error) → s.profile ≡ Standard → awaits_reply s m ≡ false → m.reply ≡ true → IsHeard call awaited g (settled s m (record { answer = Err e; served = Silent; session = s }))
   refused-reply call awaited g s m e standard none is = subst (λ p. IsHeard call awaited g (cond (is_standard p && true) (spoken s m o) o)) (sym standard)
       (pick4 (awaits_reply s m) (not m.reply) (is_fatal m o) (awaits_ack m o) (refused_reply m.request m.body o) (ended o) (saying o (Acknowledged false)) o (λ x. IsHeard call awaited g x)
       (λ waits. absurd (cc (sym none ∙ waits))) (heard-over call awaited g s (Err e)) (λ lives wants. absurd (lives-not lives)) (λ lives unwanted. absurd (lives-not lives)))
@@ -448,7 +442,7 @@ module _ (H B G : Type 0) where
       both : AgreeOn g t
       both = record { offered = agree.offered; acked_protocol_features = agree.acked_protocol_features; postcopy = agree.postcopy; acked = acked-stays n f.offered; profile = agree.profile }
 
-      w : Bool → Written FrontendReq H
+      w : Bool → Written HeardReq H
       w b = record (message g SET_FEATURES (U64 n) []) { reply = b }
 
       go : (b : Bool) → has_bit f.header_flags 2 ≡ b → AllHeard {H = H} {B = B} {G = G} (SetFeatures n) (awaited_ack g) g s (read_as (w b)) (row s (read_as (w b)))
@@ -469,7 +463,7 @@ module _ (H B G : Type 0) where
       both : AgreeOn g t
       both = record { offered = agree.offered; acked_protocol_features = refl; postcopy = agree.postcopy; acked = agree.acked; profile = agree.profile }
 
-      w : Bool → Written FrontendReq H
+      w : Bool → Written HeardReq H
       w b = record (message g SET_PROTOCOL_FEATURES (U64 n) []) { reply = b }
 
       sent : has_bit f.offered PROTOCOL_FEATURES ≡ true → (b : Bool) → AllHeard {H = H} {B = B} {G = G} (SetProtocolFeatures n) (awaited_ack g) g s (read_as (w b)) (row s (read_as (w b)))
@@ -485,7 +479,7 @@ module _ (H B G : Type 0) where
   turned-listen : (f : Frontend) (s : Session) → s.profile ≡ Standard → AgreeOn f s → IsNegotiated f → StaysHeard {H = H} B G s PostcopyListen (ask f PostcopyListen)
   turned-listen f s standard agree on = go (has_bit f.acked_protocol_features PAGEFAULT)
     where
-      m : Message FrontendReq H
+      m : Message HeardReq H
       m = read_as (turning f POSTCOPY_LISTEN)
 
       t : Session
@@ -530,7 +524,7 @@ module _ (H B G : Type 0) where
       subst (λ b. StaysHeard {H = H} B G s PostcopyEnd (frontend_feature f PAGEFAULT >> Sends (turning f POSTCOPY_END) (cond b (Reply shape.U64) (awaited_ack f)) f)) (sym (ap (λ x. is_standard x) p))
       (asked (has_bit f.acked_protocol_features PAGEFAULT) refl)
     where
-      m : Message FrontendReq H
+      m : Message HeardReq H
       m = read_as (turning f POSTCOPY_END)
 
       -- what the frontend is after a refusal

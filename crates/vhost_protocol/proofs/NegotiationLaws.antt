@@ -1,20 +1,20 @@
 -- Acknowledgements are on only where protocol features were offered.
 use Rattle.std.proofs.Common.{◌≡◌, ℕ, ◌^◌, Bool, true, false, cond, List, [], Option, Some, None, Result, Ok, Err, refl, sym, ◌∙◌, IfSome}
-use Rattle.std.specs.Prelude.{◌==◌, ◌∷◌, nat_le}
+use Rattle.std.specs.Prelude.{◌==◌, nat_le}
 use Rattle.vhost_message.specs.declared.postcopy.PostcopyState.TheVariants.{End}
 use Rattle.vhost_message.specs.Bits.{has_bit}
-use Rattle.vhost_message.specs.declared.frontend_req.FrontendReq.TheVariants.{SET_PROTOCOL_FEATURES}
+use Rattle.vhost_message.specs.declared.heard_req.HeardReq.TheVariants.{SET_PROTOCOL_FEATURES}
 use Rattle.vhost_protocol.specs.Agreement.{Negotiates, AskedNegotiates, OffersBit, AsksNegotiate, AnswersNegotiate}
-use Rattle.vhost_protocol.specs.AnswerTable.{Answered, answered, answer, after_success, alone, one_or_none, changed, queues_reply, from_reply}
+use Rattle.vhost_protocol.specs.AnswerTable.{Answered, answered, answer, after_success, alone, changed, queues_reply, from_reply}
 use Rattle.vhost_protocol.specs.Ask.{Asked, Sends, ask, awaited_ack, message, given, ◌>>◌, ◌>>=◌}
 use Rattle.vhost_protocol.specs.declared.asked.Awaited.{Awaited}
 use Rattle.vhost_protocol.specs.declared.asked.Awaited.TheVariants.{Nobody, Ack, Reply}
 use Rattle.vhost_protocol.specs.Error.{Error, InvalidMessage, InactiveFeature, BackendInternalError}
 use Rattle.vhost_protocol.specs.Features.{PROTOCOL_FEATURES}
-use Rattle.vhost_protocol.specs.FrontendCall.{FrontendCall, GetFeatures, SetFeatures, GetProtocolFeatures, SetProtocolFeatures, GetQueueNum, SetMemTable, SetLogBase, GetVringBase, GetConfig, GetSharedObject, GetInflightFd, GetMaxMemSlots, AddMemRegion, GetShmemConfig, SetDeviceStateFd, CheckDeviceState, PostcopyAdvise, PostcopyListen, PostcopyEnd, SetHdrFlags, Value, Nothing, Number, HandleOf, Frontend}
+use Rattle.vhost_protocol.specs.FrontendCall.{FrontendCall, GetFeatures, SetFeatures, SetProtocolFeatures, GetQueueNum, SetLogBase, PostcopyListen, PostcopyEnd, SetHdrFlags, Value, Nothing, Number, Frontend}
 use Rattle.vhost_protocol.specs.Session.{is_listen}
 use Rattle.vhost_protocol.specs.Served.{Served, Silent, Acknowledged, Replied}
-use Rattle.vhost_protocol.specs.Written.{Payload, Empty, U64, Regions, OneRegion, Shmem, RingState, ConfigBytes, InflightArea, LogArea}
+use Rattle.vhost_protocol.specs.Written.{Payload, Empty, U64}
 
 module _ (H : Type 0) (bit : Bool) where
   -- ---- calls
@@ -74,26 +74,15 @@ module _ (H : Type 0) (bit : Bool) where
   kept-end f false true h = h
   kept-end f false false h = h
 
+  ruleset replies = (kept-changed)
+
   -- the features: with their bit, wherever acknowledgements are on
   kept-reply : (call : FrontendCall H) (f : Frontend) (p : Payload) (hs : List H) → Negotiates bit f → OffersBit bit call (Replied p hs) → Kept (from_reply call f p hs)
   kept-reply GetFeatures f (U64 n) hs h offers = kept-changed f (record f { offered = n }) (alone hs (Ok (Number n))) h (λ on. offers ∙ h.1 on, h.1, λ has. sym offers ∙ has)
-  kept-reply GetProtocolFeatures f (U64 n) hs h offers = h
   kept-reply GetQueueNum f (U64 n) hs h offers = kept-queues f n (alone hs (Ok (Number n))) h
-  kept-reply (SetMemTable infos) f (Regions rs) hs h offers = h
-  kept-reply (SetLogBase base region) f (LogArea l) hs h offers = h
-  kept-reply (GetVringBase i) f (RingState v) hs h offers = h
-  kept-reply (GetConfig o n k buffer) f (ConfigBytes c bytes) hs h offers = h
-  kept-reply (GetSharedObject name) f Empty hs h offers = h
-  kept-reply (GetInflightFd asked) f (InflightArea i) hs h offers = h
-  kept-reply GetMaxMemSlots f (U64 n) hs h offers = h
-  kept-reply (AddMemRegion info) f (OneRegion r) hs h offers = h
-  kept-reply GetShmemConfig f (Shmem c) hs h offers = h
-  kept-reply (SetDeviceStateFd t x) f (U64 n) hs h offers = h
-  kept-reply CheckDeviceState f (U64 n) hs h offers = h
-  kept-reply PostcopyAdvise f Empty hs h offers = kept-changed f _ (one_or_none f hs HandleOf) h h
   kept-reply PostcopyEnd f (U64 n) [] h offers = kept-end f (n == 0) (is_listen f.postcopy) h
-  kept-reply PostcopyEnd f (U64 n) (x ∷ hs) h offers = h
-  kept-reply _ f _ hs h offers = tt
+  kept-reply _ f Empty hs h offers = search replies
+  kept-reply _ f _ hs h offers = search
 
   kept-success : (call : FrontendCall H) (f : Frontend) → Negotiates bit f → Negotiates bit (after_success f call)
   kept-success PostcopyListen f h = h

@@ -1,10 +1,10 @@
 -- Worked rows on records and headers: each holds by computing.
 use Rattle.std.proofs.Common.{◌≡◌, ℕ, true, false, [], ◌∷◌, ◌++◌, replicate, Some, None, refl}
-use Rattle.vhost_message.specs.FrontendReq.{request_of}
+use Rattle.vhost_message.specs.HeardReq.{request_of}
 use Rattle.vhost_message.specs.Header.{Header, header_text}
 use Rattle.vhost_message.specs.Records.{mmap_text, mmap_of, inflight_text, inflight_of, shmem_config_text}
 use Rattle.vhost_message.specs.Valid.{is_valid_region, is_valid_mmap, is_valid_config, is_valid_uuid}
-use Rattle.vhost_message.specs.declared.frontend_req.FrontendReq.TheVariants.{GET_FEATURES}
+use Rattle.vhost_message.specs.declared.heard_req.HeardReq.TheVariants.{GET_FEATURES}
 use Rattle.vhost_message.specs.declared.records.config.VhostUserConfig.{VhostUserConfig}
 use Rattle.vhost_message.specs.declared.records.inflight.VhostUserInflight.{VhostUserInflight}
 use Rattle.vhost_message.specs.declared.records.memory.VhostUserMemoryRegion.{VhostUserMemoryRegion}

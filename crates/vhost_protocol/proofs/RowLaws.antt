@@ -1,8 +1,8 @@
 -- A fact of all rows: what holds of the session before a step holds of it after.
 use Rattle.std.proofs.Common.{◌≡◌, ℕ, length, Bool, true, false, cond, List, [], Option, Some, None, Result, Ok, Err, refl}
 use Rattle.std.specs.Prelude.{◌==◌}
-use Rattle.vhost_message.specs.declared.frontend_req.FrontendReq.{FrontendReq}
-use Rattle.vhost_message.specs.declared.frontend_req.FrontendReq.TheVariants.{SET_MEM_TABLE}
+use Rattle.vhost_message.specs.declared.heard_req.HeardReq.{HeardReq}
+use Rattle.vhost_message.specs.declared.heard_req.HeardReq.TheVariants.{SET_MEM_TABLE}
 use Rattle.vhost_message.specs.declared.postcopy.PostcopyState.{PostcopyState}
 use Rattle.vhost_message.specs.declared.records.config.VhostUserConfig.{VhostUserConfig}
 use Rattle.vhost_message.specs.declared.records.inflight.VhostUserInflight.{VhostUserInflight}
@@ -63,12 +63,12 @@ module _ (H B G : Type 0) where
       go false = refl
   keeps-with_config s c (Err e) = refl
 
-  keeps-with_base : (s : Session) (m : Message FrontendReq H) (r : VhostUserSingleMemoryRegion) (a : Result (Option ℕ) Error) → lasting (with_base s m r a).session ≡ lasting s
+  keeps-with_base : (s : Session) (m : Message HeardReq H) (r : VhostUserSingleMemoryRegion) (a : Result (Option ℕ) Error) → lasting (with_base s m r a).session ≡ lasting s
   keeps-with_base s m r (Ok (Some base)) = refl
   keeps-with_base s m r (Ok None) = refl
   keeps-with_base s m r (Err e) = refl
 
-  keeps-with_bases : (s : Session) (m : Message FrontendReq H) (regions : List VhostUserMemoryRegion) (a : Result (Option (List ℕ)) Error) → lasting (with_bases s m regions a).session ≡ lasting s
+  keeps-with_bases : (s : Session) (m : Message HeardReq H) (regions : List VhostUserMemoryRegion) (a : Result (Option (List ℕ)) Error) → lasting (with_bases s m regions a).session ≡ lasting s
   keeps-with_bases s m regions (Ok (Some bases)) = go (length bases == length regions)
     where
       go : (b : Bool) → lasting (cond b (replied s (Regions (rebased regions bases)) []) (failed_with s m BackendInternalError)).session ≡ lasting s

@@ -5,7 +5,7 @@ use Rattle.std.specs.List.{list_all, filter_map}
 use Rattle.std.proofs.lemmas.Bool.{leb-true}
 use Rattle.std.proofs.lemmas.List.{length-map}
 use Rattle.vhost_message.specs.declared.limits.TheConstants.{MAX_ATTACHED_FD_ENTRIES, MAX_MEM_REGIONS, MAX_MSG_SIZE}
-use Rattle.vhost_message.specs.declared.frontend_req.FrontendReq.TheVariants.{SET_MEM_TABLE, ADD_MEM_REG, GET_CONFIG, SET_CONFIG, GET_SHARED_OBJECT}
+use Rattle.vhost_message.specs.declared.heard_req.HeardReq.TheVariants.{SET_MEM_TABLE, ADD_MEM_REG, GET_CONFIG, SET_CONFIG, GET_SHARED_OBJECT}
 use Rattle.vhost_message.specs.declared.records.memory.VhostUserMemoryRegion.{VhostUserMemoryRegion}
 use Rattle.vhost_message.specs.declared.records.shared.VhostUserSharedMsg.{VhostUserSharedMsg}
 use Rattle.vhost_protocol.specs.Ask.{Asked, ask, param, message, config, regions_in, handles_in, is_usable, given, asks, asks_unacknowledged, sends, ◌>>◌, ◌>>=◌}
@@ -16,8 +16,8 @@ use Rattle.vhost_protocol.specs.FrontendCall.{FrontendCall, SetMemTable, SetLogB
 use Rattle.vhost_protocol.specs.Heard.{IsSendable, AsksSendable, SendsWhole}
 use Rattle.vhost_protocol.specs.Session.{is_listen}
 use Rattle.vhost_protocol.specs.Written.{ObjectName, Written, Regions, ConfigBytes, payload_text}
-use Rattle.vhost_message.specs.declared.frontend_req.FrontendReq.{FrontendReq}
-use Rattle.vhost_message.specs.FrontendReq.{is_named}
+use Rattle.vhost_message.specs.declared.heard_req.HeardReq.{HeardReq}
+use Rattle.vhost_message.specs.HeardReq.{is_named}
 use Rattle.vhost_protocol.proofs.RegionLaws.{regions-length}
 
 module _ (H : Type 0) where
@@ -34,7 +34,7 @@ module _ (H : Type 0) where
   whole-cond false x y h k = k
 
   -- a message of a fixed length
-  whole : (w : Written FrontendReq H) → is_named w.request ≡ true → allows_handles w.request (length w.handles) ≡ true → nat_le (length (payload_text w.payload)) MAX_MSG_SIZE ≡ true → nat_le (length w.handles) MAX_ATTACHED_FD_ENTRIES ≡ true → IsSendable w
+  whole : (w : Written HeardReq H) → is_named w.request ≡ true → allows_handles w.request (length w.handles) ≡ true → nat_le (length (payload_text w.payload)) MAX_MSG_SIZE ≡ true → nat_le (length w.handles) MAX_ATTACHED_FD_ENTRIES ≡ true → IsSendable w
   whole w named wants size few = record { named = named; allowed = wants; size = leb-true (length (payload_text w.payload)) MAX_MSG_SIZE size; few = leb-true (length w.handles) MAX_ATTACHED_FD_ENTRIES few }
 
   ruleset wholes = (whole-then, whole-given, whole-cond, whole)
@@ -110,7 +110,7 @@ module _ (H : Type 0) where
           whole-cond (is_listen f.postcopy) _ _ (table _ _ most) (table _ _ most)
 
   -- a record of configuration space and bytes behind it
-  whole-bytes : (w : Written FrontendReq H) → is_named w.request ≡ true → allows_handles w.request (length w.handles) ≡ true → nat_le (length w.handles) MAX_ATTACHED_FD_ENTRIES ≡ true → length (payload_text w.payload) ≤ MAX_MSG_SIZE → IsSendable w
+  whole-bytes : (w : Written HeardReq H) → is_named w.request ≡ true → allows_handles w.request (length w.handles) ≡ true → nat_le (length w.handles) MAX_ATTACHED_FD_ENTRIES ≡ true → length (payload_text w.payload) ≤ MAX_MSG_SIZE → IsSendable w
   whole-bytes w named wants few size = record { named = named; allowed = wants; size = size; few = leb-true (length w.handles) MAX_ATTACHED_FD_ENTRIES few }
 
   whole-get_config : (f : Frontend) (o n k : ℕ) (buffer : List ℕ) → AsksSendable {H = H} (ask f (GetConfig o n k buffer))

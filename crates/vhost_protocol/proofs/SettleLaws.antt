@@ -1,8 +1,8 @@
 -- Whoever waits is answered.
 use Rattle.std.proofs.Common.{◌≡◌, ℕ, length, Bool, true, false, cond, ◌&&◌, ◌||◌, List, [], Option, Some, None, Result, Ok, Err, refl, sym, ap, inl, inr, is_ok}
 use Rattle.std.specs.Prelude.{◌==◌, ◌∷◌, not, ⊤}
-use Rattle.vhost_message.specs.declared.frontend_req.FrontendReq.{FrontendReq}
-use Rattle.vhost_message.specs.declared.frontend_req.FrontendReq.TheVariants.{GET_CONFIG, GET_INFLIGHT_FD, GET_SHARED_OBJECT, POSTCOPY_ADVISE, SET_DEVICE_STATE_FD, CHECK_DEVICE_STATE, POSTCOPY_END, SET_MEM_TABLE, SET_LOG_BASE, ADD_MEM_REG}
+use Rattle.vhost_message.specs.declared.heard_req.HeardReq.{HeardReq}
+use Rattle.vhost_message.specs.declared.heard_req.HeardReq.TheVariants.{GET_CONFIG, GET_INFLIGHT_FD, GET_SHARED_OBJECT, POSTCOPY_ADVISE, SET_DEVICE_STATE_FD, CHECK_DEVICE_STATE, POSTCOPY_END, SET_MEM_TABLE, SET_LOG_BASE, ADD_MEM_REG}
 use Rattle.vhost_protocol.specs.declared.profile.Profile.{Profile}
 use Rattle.vhost_protocol.specs.declared.profile.Profile.TheVariants.{Vhost, Standard}
 use Rattle.vhost_protocol.specs.Answering.{IsAsked, AnswersWell, AllWell, WhoeverWaitsIsAnswered, AllAsked, RowsAreAsked}
@@ -49,13 +49,13 @@ module _ (H : Type 0) where
 
   -- ---- the forms that refuse
 
-  Well : Session → Message FrontendReq H → Outcome H → Type 0
+  Well : Session → Message HeardReq H → Outcome H → Type 0
   Well s m o = AnswersWell s m o
 
-  ended-well : (s t : Session) (m : Message FrontendReq H) (a : Result ⊤ Error) → AnswersWell s m (ended (record { answer = a; served = Silent; session = t }))
+  ended-well : (s t : Session) (m : Message HeardReq H) (a : Result ⊤ Error) → AnswersWell s m (ended (record { answer = a; served = Silent; session = t }))
   ended-well s t m a = record { answered = λ waits. inr refl; asked = tt }
 
-  replied-well : (s : Session) (m : Message FrontendReq H) (o : Outcome H) (r : FrontendReq) (t : Session) (a : Result ⊤ Error) → awaits_reply s m ≡ true
+  replied-well : (s : Session) (m : Message HeardReq H) (o : Outcome H) (r : HeardReq) (t : Session) (a : Result ⊤ Error) → awaits_reply s m ≡ true
       → AnswersWell s m (refused_reply r m.body (record { answer = a; served = Silent; session = t }))
   replied-well s m o GET_CONFIG t a own = record { answered = λ waits. inl refl; asked = own }
   replied-well s m o GET_INFLIGHT_FD t a own = record { answered = λ waits. inl refl; asked = own }
@@ -68,7 +68,7 @@ module _ (H : Type 0) where
 
   -- ---- a silence that is settled
 
-  spoken-well : (s t : Session) (m : Message FrontendReq H) (a : Result ⊤ Error) → AnswersWell s m (spoken s m (record { answer = a; served = Silent; session = t }))
+  spoken-well : (s t : Session) (m : Message HeardReq H) (a : Result ⊤ Error) → AnswersWell s m (spoken s m (record { answer = a; served = Silent; session = t }))
   spoken-well s t m a = pick (awaits_reply s m) (not m.reply) (is_fatal m o) (awaits_ack m o) (refused_reply m.request m.body o) (ended o) (saying o (Acknowledged (is_ok a))) o (λ x. AnswersWell s m x)
       (λ own. replied-well s m o m.request t a own)
       (ended-well s t m a)
@@ -79,7 +79,7 @@ module _ (H : Type 0) where
       o = record { answer = a; served = Silent; session = t }
 
   -- whatever the table has
-  by-served : (p : Profile) → p ≡ Standard → (s t : Session) (m : Message FrontendReq H) (a : Result ⊤ Error) (v : Served H) → IsAsked s m a v t
+  by-served : (p : Profile) → p ≡ Standard → (s t : Session) (m : Message HeardReq H) (a : Result ⊤ Error) (v : Served H) → IsAsked s m a v t
       → AnswersWell s m (cond (is_standard p && is_unanswered (awaits_reply s m) v) (spoken s m (record { answer = a; served = Silent; session = t })) (record { answer = a; served = v; session = t }))
   by-served Standard e s t m a Silent asked = spoken-well s t m a
   by-served Standard e s t m a (Acknowledged b) asked = go (awaits_reply s m) refl
@@ -91,18 +91,18 @@ module _ (H : Type 0) where
   by-served Standard e s t m a (Replied payload hs) asked = record { answered = λ waits. inl refl; asked = asked }
   by-served Vhost e s t m a v asked = absurd (cc e)
 
-  settled-well : (s : Session) (m : Message FrontendReq H) (o : Outcome H) → s.profile ≡ Standard → IsAsked s m o.answer o.served o.session → AnswersWell s m (settled s m o)
+  settled-well : (s : Session) (m : Message HeardReq H) (o : Outcome H) → s.profile ≡ Standard → IsAsked s m o.answer o.served o.session → AnswersWell s m (settled s m o)
   settled-well s m o e asked = by-served s.profile e s o.session m o.answer o.served asked
 
   -- under Vhost nothing is settled
-  pub settled-vhost : (s : Session) (m : Message FrontendReq H) (o : Outcome H) → s.profile ≡ Vhost → settled s m o ≡ o
+  pub settled-vhost : (s : Session) (m : Message HeardReq H) (o : Outcome H) → s.profile ≡ Vhost → settled s m o ≡ o
   settled-vhost s m o e = ap (λ p. cond (is_standard p && is_unanswered (awaits_reply s m) o.served) (spoken s m (silenced o)) o) e
 
   -- what is settled keeps of an outcome what each form of a refusal keeps
-  kept : (A : Type 0) (part : Outcome H → A) (s : Session) (m : Message FrontendReq H) (o : Outcome H) → ((v : Served H) → part (record o { served = v }) ≡ part o) → part (ended (silenced o)) ≡ part o → part (settled s m o) ≡ part o
+  kept : (A : Type 0) (part : Outcome H → A) (s : Session) (m : Message HeardReq H) (o : Outcome H) → ((v : Served H) → part (record o { served = v }) ≡ part o) → part (ended (silenced o)) ≡ part o → part (settled s m o) ≡ part o
   kept A part s m o said over = go (is_standard s.profile && is_unanswered (awaits_reply s m) o.served)
     where
-      refused : (r : FrontendReq) (body : List ℕ) → part (refused_reply r body (silenced o)) ≡ part o
+      refused : (r : HeardReq) (body : List ℕ) → part (refused_reply r body (silenced o)) ≡ part o
       refused GET_CONFIG body = said _
       refused GET_INFLIGHT_FD body = said _
       refused GET_SHARED_OBJECT body = said _
@@ -118,20 +118,20 @@ module _ (H : Type 0) where
       go false = refl
 
   -- it answers the same
-  pub settled-answer : (s : Session) (m : Message FrontendReq H) (o : Outcome H) → (settled s m o).answer ≡ o.answer
+  pub settled-answer : (s : Session) (m : Message HeardReq H) (o : Outcome H) → (settled s m o).answer ≡ o.answer
   settled-answer s m o = kept (Result ⊤ Error) (λ x. x.answer) s m o (λ v. refl) refl
 
   -- and has the same profile
-  pub settled-profile : (s : Session) (m : Message FrontendReq H) (o : Outcome H) → (settled s m o).session.profile ≡ o.session.profile
+  pub settled-profile : (s : Session) (m : Message HeardReq H) (o : Outcome H) → (settled s m o).session.profile ≡ o.session.profile
   settled-profile s m o = kept Profile (λ x. x.session.profile) s m o (λ v. refl) refl
 
   -- ---- what the table writes
 
-  Asked : Session → Message FrontendReq H → Result ⊤ Error → Served H → Session → Type 0
+  Asked : Session → Message HeardReq H → Result ⊤ Error → Served H → Session → Type 0
   Asked s m a v t = IsAsked s m a v t
 
   -- an acknowledgement that was wanted
-  acked-if : (s t : Session) (m : Message FrontendReq H) (a : Result ⊤ Error) (b : Bool) → b ≡ is_ok a → IsAsked s m a (ack_back t m b) t
+  acked-if : (s t : Session) (m : Message HeardReq H) (a : Result ⊤ Error) (b : Bool) → b ≡ is_ok a → IsAsked s m a (ack_back t m b) t
   acked-if s t m a b same = go (ack_on t && m.need_reply) refl
     where
       go : (w : Bool) → w ≡ (ack_on t && m.need_reply) → IsAsked s m a (cond w (Acknowledged b) Silent) t
@@ -139,72 +139,72 @@ module _ (H : Type 0) where
       go false e = tt
 
 module _ (H B G : Type 0) where
-  asked-with_ack : (A : Type 0) (s t : Session) (m : Message FrontendReq H) (a : Result A Error) → IsAsked s m (with_ack t m a).answer (with_ack t m a).served (with_ack t m a).session
+  asked-with_ack : (A : Type 0) (s t : Session) (m : Message HeardReq H) (a : Result A Error) → IsAsked s m (with_ack t m a).answer (with_ack t m a).served (with_ack t m a).session
   asked-with_ack A s t m (Ok a) = acked-if H s t m (Ok tt) true refl
   asked-with_ack A s t m (Err e) = acked-if H s t m (Err e) false refl
 
-  asked-failed_with : (s : Session) (m : Message FrontendReq H) (e : Error) → IsAsked s m (Err e) (ack_back s m false) s
+  asked-failed_with : (s : Session) (m : Message HeardReq H) (e : Error) → IsAsked s m (Err e) (ack_back s m false) s
   asked-failed_with s m e = acked-if H s s m (Err e) false refl
 
-  asked-then : (s : Session) (m : Message FrontendReq H) (b : Bool) (e : Error) (next : Step H B G) → AllAsked s m next → AllAsked s m (test b (silently e) >> next)
+  asked-then : (s : Session) (m : Message HeardReq H) (b : Bool) (e : Error) (next : Step H B G) → AllAsked s m next → AllAsked s m (test b (silently e) >> next)
   asked-then s m true e next h = h
   asked-then s m false e next h = tt
 
-  asked-then_aloud : (s : Session) (m : Message FrontendReq H) (b : Bool) (e : Error) (next : Step H B G) → AllAsked s m next → AllAsked s m (test b (acknowledged s m e) >> next)
+  asked-then_aloud : (s : Session) (m : Message HeardReq H) (b : Bool) (e : Error) (next : Step H B G) → AllAsked s m next → AllAsked s m (test b (acknowledged s m e) >> next)
   asked-then_aloud s m true e next h = h
   asked-then_aloud s m false e next h = asked-failed_with s m e
 
-  asked-if : (A : Type 0) (s : Session) (m : Message FrontendReq H) (b : Bool) (a : A) (e : Error) (next : A → Step H B G) → AllAsked s m (next a) → AllAsked s m (cond b (Ok a) (Err (silently e)) >>= next)
+  asked-if : (A : Type 0) (s : Session) (m : Message HeardReq H) (b : Bool) (a : A) (e : Error) (next : A → Step H B G) → AllAsked s m (next a) → AllAsked s m (cond b (Ok a) (Err (silently e)) >>= next)
   asked-if A s m true a e next h = h
   asked-if A s m false a e next h = tt
 
-  asked-one : (s : Session) (m : Message FrontendReq H) (hs : List H) (e : Error) (next : H → Step H B G) → ((h : H) → AllAsked s m (next h)) → AllAsked s m (only (silently e) hs >>= next)
+  asked-one : (s : Session) (m : Message HeardReq H) (hs : List H) (e : Error) (next : H → Step H B G) → ((h : H) → AllAsked s m (next h)) → AllAsked s m (only (silently e) hs >>= next)
   asked-one s m [] e next h = tt
   asked-one s m (x ∷ []) e next h = h x
   asked-one s m (x ∷ y ∷ hs) e next h = tt
 
-  asked-one_aloud : (s : Session) (m : Message FrontendReq H) (hs : List H) (e : Error) (next : H → Step H B G) → ((h : H) → AllAsked s m (next h)) → AllAsked s m (only (acknowledged s m e) hs >>= next)
+  asked-one_aloud : (s : Session) (m : Message HeardReq H) (hs : List H) (e : Error) (next : H → Step H B G) → ((h : H) → AllAsked s m (next h)) → AllAsked s m (only (acknowledged s m e) hs >>= next)
   asked-one_aloud s m [] e next h = asked-failed_with s m e
   asked-one_aloud s m (x ∷ []) e next h = h x
   asked-one_aloud s m (x ∷ y ∷ hs) e next h = asked-failed_with s m e
 
-  asked-channel : (C : Type 0) (s : Session) (m : Message FrontendReq H) (o : Result C Error) (next : C → Step H B G) → ((c : C) → AllAsked s m (next c)) → AllAsked s m (channel s m o >>= next)
+  asked-channel : (C : Type 0) (s : Session) (m : Message HeardReq H) (o : Result C Error) (next : C → Step H B G) → ((c : C) → AllAsked s m (next c)) → AllAsked s m (channel s m o >>= next)
   asked-channel C s m (Ok c) next h = h c
   asked-channel C s m (Err e) next h = asked-failed_with s m e
 
-  asked-cond : (s : Session) (m : Message FrontendReq H) (b : Bool) (x y : Step H B G) → AllAsked s m x → AllAsked s m y → AllAsked s m (cond b x y)
+  asked-cond : (s : Session) (m : Message HeardReq H) (b : Bool) (x y : Step H B G) → AllAsked s m x → AllAsked s m y → AllAsked s m (cond b x y)
   asked-cond s m true x y h k = h
   asked-cond s m false x y h k = k
 
   -- ---- replies of a request that has one
 
-  asked-number : (A : Type 0) (s : Session) (m : Message FrontendReq H) (payload : A → Payload) (a : Result A Error) → awaits_reply s m ≡ true
+  asked-number : (A : Type 0) (s : Session) (m : Message HeardReq H) (payload : A → Payload) (a : Result A Error) → awaits_reply s m ≡ true
       → IsAsked s m (replied_or_silent {H = H} s payload a).answer (replied_or_silent {H = H} s payload a).served (replied_or_silent {H = H} s payload a).session
   asked-number A s m payload (Ok a) own = own
   asked-number A s m payload (Err e) own = tt
 
-  asked-features : (s : Session) (m : Message FrontendReq H) (a : Result ℕ Error) → awaits_reply s m ≡ true → IsAsked s m (with_features {H = H} s a).answer (with_features {H = H} s a).served (with_features {H = H} s a).session
+  asked-features : (s : Session) (m : Message HeardReq H) (a : Result ℕ Error) → awaits_reply s m ≡ true → IsAsked s m (with_features {H = H} s a).answer (with_features {H = H} s a).served (with_features {H = H} s a).session
   asked-features s m (Ok a) own = own
   asked-features s m (Err e) own = tt
 
-  asked-handle : (s t : Session) (m : Message FrontendReq H) (a : Result H Error) → awaits_reply s m ≡ true → IsAsked s m (with_handle t a).answer (with_handle t a).served (with_handle t a).session
+  asked-handle : (s t : Session) (m : Message HeardReq H) (a : Result H Error) → awaits_reply s m ≡ true → IsAsked s m (with_handle t a).answer (with_handle t a).served (with_handle t a).session
   asked-handle s t m (Ok a) own = own
   asked-handle s t m (Err e) own = own
 
-  asked-inflight : (s : Session) (m : Message FrontendReq H) (a : Result (VhostUserInflight × H) Error) → awaits_reply s m ≡ true → IsAsked s m (with_inflight s a).answer (with_inflight s a).served (with_inflight s a).session
+  asked-inflight : (s : Session) (m : Message HeardReq H) (a : Result (VhostUserInflight × H) Error) → awaits_reply s m ≡ true → IsAsked s m (with_inflight s a).answer (with_inflight s a).served (with_inflight s a).session
   asked-inflight s m (Ok a) own = own
   asked-inflight s m (Err e) own = tt
 
-  asked-state : (s : Session) (m : Message FrontendReq H) (a : Result (Option H) Error) → awaits_reply s m ≡ true → IsAsked s m (with_state s a).answer (with_state s a).served (with_state s a).session
+  asked-state : (s : Session) (m : Message HeardReq H) (a : Result (Option H) Error) → awaits_reply s m ≡ true → IsAsked s m (with_state s a).answer (with_state s a).served (with_state s a).session
   asked-state s m (Ok (Some h)) own = own
   asked-state s m (Ok None) own = own
   asked-state s m (Err e) own = own
 
-  asked-check : (s : Session) (m : Message FrontendReq H) (a : Result ⊤ Error) → awaits_reply s m ≡ true → IsAsked s m (with_check {H = H} s a).answer (with_check {H = H} s a).served (with_check {H = H} s a).session
+  asked-check : (s : Session) (m : Message HeardReq H) (a : Result ⊤ Error) → awaits_reply s m ≡ true → IsAsked s m (with_check {H = H} s a).answer (with_check {H = H} s a).served (with_check {H = H} s a).session
   asked-check s m (Ok u) own = own
   asked-check s m (Err e) own = own
 
-  asked-config : (s : Session) (m : Message FrontendReq H) (c : VhostUserConfig) (a : Result (List ℕ) Error) → awaits_reply s m ≡ true → IsAsked s m (with_config {H = H} s c a).answer (with_config {H = H} s c a).served (with_config {H = H} s c a).session
+  asked-config : (s : Session) (m : Message HeardReq H) (c : VhostUserConfig) (a : Result (List ℕ) Error) → awaits_reply s m ≡ true → IsAsked s m (with_config {H = H} s c a).answer (with_config {H = H} s c a).served (with_config {H = H} s c a).session
   asked-config s m c (Ok bytes) own = go (length bytes == c.size)
     where
       o : Bool → Outcome H
@@ -215,12 +215,12 @@ module _ (H B G : Type 0) where
       go false = own
   asked-config s m c (Err e) own = own
 
-  asked-base : (s : Session) (m : Message FrontendReq H) (r : VhostUserSingleMemoryRegion) (a : Result (Option ℕ) Error) → awaits_reply s m ≡ true → IsAsked s m (with_base s m r a).answer (with_base s m r a).served (with_base s m r a).session
+  asked-base : (s : Session) (m : Message HeardReq H) (r : VhostUserSingleMemoryRegion) (a : Result (Option ℕ) Error) → awaits_reply s m ≡ true → IsAsked s m (with_base s m r a).answer (with_base s m r a).served (with_base s m r a).session
   asked-base s m r (Ok (Some base)) own = own
   asked-base s m r (Ok None) own = asked-failed_with s m BackendInternalError
   asked-base s m r (Err e) own = asked-failed_with s m e
 
-  asked-bases : (s : Session) (m : Message FrontendReq H) (regions : List VhostUserMemoryRegion) (a : Result (Option (List ℕ)) Error) → awaits_reply s m ≡ true → IsAsked s m (with_bases s m regions a).answer (with_bases s m regions a).served (with_bases s m regions a).session
+  asked-bases : (s : Session) (m : Message HeardReq H) (regions : List VhostUserMemoryRegion) (a : Result (Option (List ℕ)) Error) → awaits_reply s m ≡ true → IsAsked s m (with_bases s m regions a).answer (with_bases s m regions a).served (with_bases s m regions a).session
   asked-bases s m regions (Ok (Some bases)) own = go (length bases == length regions)
     where
       o : Bool → Outcome H
@@ -232,7 +232,7 @@ module _ (H B G : Type 0) where
   asked-bases s m regions (Ok None) own = asked-failed_with s m BackendInternalError
   asked-bases s m regions (Err e) own = asked-failed_with s m e
 
-  asked-unwritten : (A : Type 0) (s : Session) (m : Message FrontendReq H) (a : Result A Error) → IsAsked s m (unwritten {H = H} s a).answer (unwritten {H = H} s a).served (unwritten {H = H} s a).session
+  asked-unwritten : (A : Type 0) (s : Session) (m : Message HeardReq H) (a : Result A Error) → IsAsked s m (unwritten {H = H} s a).answer (unwritten {H = H} s a).served (unwritten {H = H} s a).session
   asked-unwritten A s m (Ok a) = tt
   asked-unwritten A s m (Err e) = tt
 
@@ -240,17 +240,17 @@ module _ (H B G : Type 0) where
 
   -- ---- rows whose reply is of some sessions
 
-  log-row : (s : Session) (m : Message FrontendReq H) (b : Bool) → awaits_reply s m ≡ b → AllAsked {B = B} {G = G} s m (test b (silently (InactiveOperation 2)) >> (only (silently IncorrectFds) m.handles >>= (λ h. body 16 log_of is_valid_log m >>= (λ l. calls s m (SetLogBase l h)))))
+  log-row : (s : Session) (m : Message HeardReq H) (b : Bool) → awaits_reply s m ≡ b → AllAsked {B = B} {G = G} s m (test b (silently (InactiveOperation 2)) >> (only (silently IncorrectFds) m.handles >>= (λ h. body 16 log_of is_valid_log m >>= (λ l. calls s m (SetLogBase l h)))))
   log-row s m true own = search asked_so depth 12
   log-row s m false own = tt
 
-  table-part : (s : Session) (m : Message FrontendReq H) (L E : Bool) → awaits_reply s m ≡ (L && not E) → AllAsked {B = B} {G = G} s m (cond (L && E) (mapped_row s m)
+  table-part : (s : Session) (m : Message HeardReq H) (L E : Bool) → awaits_reply s m ≡ (L && not E) → AllAsked {B = B} {G = G} s m (cond (L && E) (mapped_row s m)
       (test (is_valid_table s m) (acknowledged s m InvalidMessage) >> cond L (calls s m (SetMemTable (table m) m.handles (Some true))) (calls s m (SetMemTable (table m) m.handles (Some false)))))
   table-part s m true true own = search asked_so depth 12
   table-part s m true false own = search (asked_so, asked-bases) depth 12
   table-part s m false E own = search asked_so depth 12
 
-  region-part : (s : Session) (m : Message FrontendReq H) (L E : Bool) → awaits_reply s m ≡ (L && not E) → AllAsked {B = B} {G = G} s m (cond (L && E) (mapped_row s m)
+  region-part : (s : Session) (m : Message HeardReq H) (L E : Bool) → awaits_reply s m ≡ (L && not E) → AllAsked {B = B} {G = G} s m (cond (L && E) (mapped_row s m)
       (only (silently InvalidParam) m.handles >>= (λ h. body 40 single_region_of always m >>= (λ r. cond L (calls s m (AddMemRegion r h (Some true))) (calls s m (AddMemRegion r h (Some false)))))))
   region-part s m true true own = search asked_so depth 12
   region-part s m true false own = search (asked_so, asked-base) depth 12
@@ -262,7 +262,7 @@ module _ (H B G : Type 0) where
   rows-asked SET_LOG_BASE s m own = log-row s m _ own
   rows-asked _ s m own = search asked_so depth 12
 
-  well-all : (s : Session) (m : Message FrontendReq H) (x : Step H B G) → s.profile ≡ Standard → AllAsked s m x → AllWell s m x
+  well-all : (s : Session) (m : Message HeardReq H) (x : Step H B G) → s.profile ≡ Standard → AllAsked s m x → AllWell s m x
   well-all s m (Refused r) e asked = settled-well H s m _ e asked
   well-all s m (Calls c next) e asked = λ a. settled-well H s m (next a) e (asked a)
   well-all s m (OpensBackend h next) e asked = λ opened. well-all s m (next opened) e (asked opened)

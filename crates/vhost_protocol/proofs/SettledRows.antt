@@ -1,7 +1,7 @@
 -- Worked rows of what becomes of silence under Standard: each holds by computing.
 use Rattle.std.proofs.Common.{◌≡◌, ℕ, Bool, true, false, List, [], ◌∷◌, ◌++◌, replicate, Option, Some, None, Err, refl, pos, ℤ}
-use Rattle.vhost_message.specs.declared.frontend_req.FrontendReq.{FrontendReq}
-use Rattle.vhost_message.specs.declared.frontend_req.FrontendReq.TheVariants.{GET_VRING_BASE, GET_QUEUE_NUM, SET_VRING_ENABLE, NET_SET_MTU, SET_LOG_BASE, POSTCOPY_LISTEN, POSTCOPY_END, GET_INFLIGHT_FD, SET_INFLIGHT_FD, ADD_MEM_REG, GET_SHMEM_CONFIG, GET_STATUS, VRING_KICK, OTHER}
+use Rattle.vhost_message.specs.declared.heard_req.HeardReq.{HeardReq}
+use Rattle.vhost_message.specs.declared.heard_req.HeardReq.TheVariants.{GET_VRING_BASE, GET_QUEUE_NUM, SET_VRING_ENABLE, NET_SET_MTU, SET_LOG_BASE, POSTCOPY_LISTEN, POSTCOPY_END, GET_INFLIGHT_FD, SET_INFLIGHT_FD, ADD_MEM_REG, GET_SHMEM_CONFIG, GET_STATUS, VRING_KICK, OTHER}
 use Rattle.vhost_message.specs.declared.postcopy.PostcopyState.TheVariants.{Listen}
 use Rattle.vhost_message.specs.Text.{digits}
 use Rattle.vhost_protocol.specs.declared.profile.Profile.{Profile}
@@ -27,7 +27,7 @@ refuses (device.Other request body handles) = Some (Err InvalidParam)
 refuses _ = None
 
 -- what the frontend sees, and the number of the session's end
-seen : Session → Message FrontendReq ℕ → Step ℕ ℕ ℕ → Option (Served ℕ × Option ℤ)
+seen : Session → Message HeardReq ℕ → Step ℕ ℕ ℕ → Option (Served ℕ × Option ℤ)
 seen s m (Refused r) =
     let o = settled s m (record { answer = Err r.error; served = r.served; session = s }) in Some (o.served, o.session.failed)
 seen s m (Calls c next) = go (refuses c)
@@ -42,9 +42,9 @@ seen s m _ = None
 session : Profile → ℕ → Session
 session p features = record fresh { offered = 0x40000000; acked_protocol_features = features; profile = p }
 
-asks : Profile → ℕ → FrontendReq → Bool → List ℕ → Option (Served ℕ × Option ℤ)
+asks : Profile → ℕ → HeardReq → Bool → List ℕ → Option (Served ℕ × Option ℤ)
 asks p features r need_reply body =
-    let m : Message FrontendReq ℕ = record { request = r; reply = false; need_reply = need_reply; body = body; handles = [] } in seen (session p features) m (row (session p features) m)
+    let m : Message HeardReq ℕ = record { request = r; reply = false; need_reply = need_reply; body = body; handles = [] } in seen (session p features) m (row (session p features) m)
 
 ends : Option (Served ℕ × Option ℤ)
 ends = Some (Silent, Some (pos 71))
@@ -124,7 +124,7 @@ inflight = refl
 listened : Session
 listened = record (session Standard 0xFFFFF) { postcopy = Listen }
 
-adds : Message FrontendReq ℕ
+adds : Message HeardReq ℕ
 adds = record { request = ADD_MEM_REG; reply = false; need_reply = true; body = replicate 40 1; handles = 3 ∷ [] }
 
 region_listened : seen listened adds (row listened adds) ≡ ends

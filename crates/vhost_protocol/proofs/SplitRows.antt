@@ -1,8 +1,8 @@
 -- Worked rows on how a stream is cut: each holds by computing.
 use Rattle.std.proofs.Common.{◌≡◌, ℕ, true, false, List, [], ◌∷◌, ◌++◌, replicate, Result, Ok, Err, refl}
-use Rattle.vhost_message.specs.FrontendReq.{request_of}
-use Rattle.vhost_message.specs.declared.frontend_req.FrontendReq.{FrontendReq}
-use Rattle.vhost_message.specs.declared.frontend_req.FrontendReq.TheVariants.{SET_FEATURES, OTHER}
+use Rattle.vhost_message.specs.HeardReq.{request_of}
+use Rattle.vhost_message.specs.declared.heard_req.HeardReq.{HeardReq}
+use Rattle.vhost_message.specs.declared.heard_req.HeardReq.TheVariants.{SET_FEATURES, OTHER}
 use Rattle.vhost_protocol.specs.Codes.{allows_handles}
 use Rattle.vhost_protocol.specs.Error.{Error, Disconnected, PartialMessage, InvalidMessage}
 use Rattle.vhost_protocol.specs.declared.profile.Profile.{Profile}
@@ -12,7 +12,7 @@ use Rattle.vhost_protocol.specs.Split.{Message, split, split_after, split_body, 
 use Rattle.vhost_protocol.specs.Stream.{Cell, plain, carrying}
 
 -- the first message of a stream of the frontend, with numbers for handles
-cut : List (Cell ℕ) → Result (Message FrontendReq ℕ) Error × List (Cell ℕ)
+cut : List (Cell ℕ) → Result (Message HeardReq ℕ) Error × List (Cell ℕ)
 cut = split request_of allows_handles
 
 empty_stream : cut [] ≡ (Err Disconnected, [])
@@ -50,7 +50,7 @@ strayed = refl
 -- ---- a number that is no request's
 
 -- the stream of a session with this behaviour
-cut_by : Profile → List (Cell ℕ) → Result (Message FrontendReq ℕ) Error × List (Cell ℕ)
+cut_by : Profile → List (Cell ℕ) → Result (Message HeardReq ℕ) Error × List (Cell ℕ)
 cut_by profile = split (heard_in (record fresh { profile = profile })) allows_handles
 
 nameless : List ℕ

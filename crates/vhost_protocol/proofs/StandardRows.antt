@@ -1,7 +1,7 @@
 -- Worked rows of a frontend under the profile Standard: each holds by computing.
 use Rattle.std.proofs.Common.{◌≡◌, ℕ, Bool, true, false, List, [], ◌∷◌, ◌++◌, replicate, Option, Some, None, Ok, Err, refl}
-use Rattle.vhost_message.specs.declared.frontend_req.FrontendReq.{FrontendReq}
-use Rattle.vhost_message.specs.declared.frontend_req.FrontendReq.TheVariants.{SET_OWNER, SET_LOG_BASE, SET_PROTOCOL_FEATURES}
+use Rattle.vhost_message.specs.declared.heard_req.HeardReq.{HeardReq}
+use Rattle.vhost_message.specs.declared.heard_req.HeardReq.TheVariants.{SET_OWNER, SET_LOG_BASE, SET_PROTOCOL_FEATURES}
 use Rattle.vhost_message.specs.Header.{Header, header_text}
 use Rattle.vhost_message.specs.Text.{digits}
 use Rattle.vhost_protocol.specs.AnswerTable.{Answered, answered}
@@ -28,7 +28,7 @@ by_vhost features = record (asking features) { profile = Vhost }
 
 -- ---- what is sent
 
-sent : FrontendReq → Bool → Payload → Written FrontendReq ℕ
+sent : HeardReq → Bool → Payload → Written HeardReq ℕ
 sent r need_reply payload = record { request = r; reply = false; need_reply = need_reply; payload = payload; handles = [] }
 
 -- NEED_REPLY goes out only where REPLY_ACK is acknowledged, by this request perhaps

@@ -1,11 +1,11 @@
 -- Worked rows of the protocol table: each holds by computing.
 use Rattle.std.proofs.Common.{◌≡◌, ℕ, Bool, true, false, List, [], ◌∷◌, ◌++◌, replicate, Option, Some, None, Result, Ok, Err, refl}
 use Rattle.std.specs.Prelude.{◌==◌, codes, if◌then◌else◌, nat_le, flat_map, take}
-use Rattle.vhost_message.specs.FrontendReq.{request_number}
+use Rattle.vhost_message.specs.HeardReq.{request_number}
 use Rattle.vhost_message.specs.Records.{region_text, memory_text}
 use Rattle.vhost_message.specs.Text.{digits}
-use Rattle.vhost_message.specs.declared.frontend_req.FrontendReq.{FrontendReq}
-use Rattle.vhost_message.specs.declared.frontend_req.FrontendReq.TheVariants.{GET_FEATURES, SET_FEATURES, SET_OWNER, SET_MEM_TABLE, SET_LOG_FD, SET_VRING_NUM, SET_VRING_KICK, SET_VRING_ENABLE, NET_SET_MTU, IOTLB_MSG, SEND_RARP, GET_PROTOCOL_FEATURES, SET_CONFIG, GET_CONFIG, GPU_SET_SOCKET, SET_DEVICE_STATE_FD, GET_SHMEM_CONFIG, POSTCOPY_END, SET_BACKEND_REQ_FD}
+use Rattle.vhost_message.specs.declared.heard_req.HeardReq.{HeardReq}
+use Rattle.vhost_message.specs.declared.heard_req.HeardReq.TheVariants.{GET_FEATURES, SET_FEATURES, SET_OWNER, SET_MEM_TABLE, SET_LOG_FD, SET_VRING_NUM, SET_VRING_KICK, SET_VRING_ENABLE, NET_SET_MTU, IOTLB_MSG, SEND_RARP, GET_PROTOCOL_FEATURES, SET_CONFIG, GET_CONFIG, GPU_SET_SOCKET, SET_DEVICE_STATE_FD, GET_SHMEM_CONFIG, POSTCOPY_END, SET_BACKEND_REQ_FD}
 use Rattle.vhost_message.specs.declared.postcopy.PostcopyState.TheVariants.{Listen, End}
 use Rattle.vhost_protocol.specs.DeviceCall.{Call, Answer, SetOwner, GetFeatures, SetFeatures, SetMtu, Other, SetVringNum, SetVringKick, SetVringEnable, GetProtocolFeatures, SetMemTable, GetConfig, SetGpuSocket, SetDeviceStateFd, SetBackendReqFd, PostcopyEnd, PostcopyAckMemRegions, GetVringBase, GetQueueNum, GetSharedObject, GetInflightFd, GetMaxMemSlots, AddMemRegion, GetShmemConfig, PostcopyAdvice}
 use Rattle.vhost_protocol.specs.Error.{Error, InvalidOperation, InvalidParam, InvalidMessage, InactiveFeature, InactiveOperation, InvalidSocketFd, Named}
@@ -27,10 +27,10 @@ record Done : Type 0 where
   handles : List ℕ
   session : Session
 
-shown : Message FrontendReq ℕ → Served ℕ → List ℕ × List ℕ
+shown : Message HeardReq ℕ → Served ℕ → List ℕ × List ℕ
 shown m served = elim (reply m.request served) [ None ↦ ([], []) | Some w ↦ (written_text request_number w, w.handles) ]
 
-done_by : ((c : Call ℕ ℕ ℕ) → Answer c) → (ℕ → Result ℕ Error) → Session → Message FrontendReq ℕ → Step ℕ ℕ ℕ → Done
+done_by : ((c : Call ℕ ℕ ℕ) → Answer c) → (ℕ → Result ℕ Error) → Session → Message HeardReq ℕ → Step ℕ ℕ ℕ → Done
 done_by device opens s m (Refused r) =
     let o = settled s m (record { answer = Err r.error; served = r.served; session = s }) in
     record { call = None; answer = o.answer; text = (shown m (o.served)).0; handles = (shown m (o.served)).1; session = o.session }
@@ -65,11 +65,11 @@ device (SetFeatures n) = Err (InvalidOperation (codes "not owned"))
 device (Other request body handles) = if request == 0x16 then Err (InvalidOperation (codes "request not served")) else Ok tt
 device _ = Ok tt
 
-message : FrontendReq → Bool → List ℕ → List ℕ → Message FrontendReq ℕ
+message : HeardReq → Bool → List ℕ → List ℕ → Message HeardReq ℕ
 message r need_reply body handles = record { request = r; reply = false; need_reply = need_reply; body = body; handles = handles }
 
 -- what the handler does with a message
-does : Session → Message FrontendReq ℕ → Done
+does : Session → Message HeardReq ℕ → Done
 does s m = done_by device opens s m (row s m)
 
 -- bit 30 offered, these protocol features acknowledged
@@ -244,7 +244,7 @@ giving : (c : Call ℕ ℕ ℕ) → Answer c
 giving (SetDeviceStateFd t h) = Ok (Some 55)
 giving c = device c
 
-transfer : Message FrontendReq ℕ
+transfer : Message HeardReq ℕ
 transfer = message SET_DEVICE_STATE_FD false (replicate 8 0) (9 ∷ [])
 
 state_failed : (done_by failing opens fresh transfer (row fresh transfer)).text ≡ 0x2a ∷ 0 ∷ 0 ∷ 0 ∷ 5 ∷ 0 ∷ 0 ∷ 0 ∷ 8 ∷ 0 ∷ 0 ∷ 0 ∷ 1 ∷ 1 ∷ replicate 6 0
@@ -256,7 +256,7 @@ unfolding done_by opens giving message shown transfer
 state_given = refl
 
 -- a handle that is no socket: acknowledged as an error, the device untouched
-backend_fd : Message FrontendReq ℕ
+backend_fd : Message HeardReq ℕ
 backend_fd = message SET_BACKEND_REQ_FD true [] (7 ∷ [])
 
 no_socket : does (acks 0x28) backend_fd

@@ -6,8 +6,8 @@ use Rattle.std.proofs.lemmas.List.{append-nil}
 use Rattle.byteorder.specs.Numbers.{little_number-reads_back}
 use Rattle.vhost_message.specs.declared.limits.TheConstants.{MAX_MSG_SIZE}
 use Rattle.vhost_message.specs.Bits.{has_bit}
-use Rattle.vhost_message.specs.declared.frontend_req.FrontendReq.{FrontendReq}
-use Rattle.vhost_message.specs.FrontendReq.{request_of, request_number, is_named, request_of-request_number}
+use Rattle.vhost_message.specs.declared.heard_req.HeardReq.{HeardReq}
+use Rattle.vhost_message.specs.HeardReq.{request_of, request_number, is_named, request_of-request_number}
 use Rattle.vhost_message.specs.Header.{Header}
 use Rattle.vhost_message.specs.Records.{u64_at}
 use Rattle.vhost_message.specs.Text.{digits}
@@ -30,14 +30,14 @@ use Rattle.vhost_protocol.proofs.ReplyLaws.{reply-read}
 use Rattle.vhost_protocol.proofs.WholeLaws.{whole-read, sized-read}
 
 -- a reply's header is known
-pub reply-known : {H : Type 0} (r : FrontendReq) (payload : Payload) (handles : List H) → is_named r ≡ true → length (payload_text payload) ≤ MAX_MSG_SIZE
+pub reply-known : {H : Type 0} (r : HeardReq) (payload : Payload) (handles : List H) → is_named r ≡ true → length (payload_text payload) ≤ MAX_MSG_SIZE
     → is_known (head_of request_number (reply_to r payload handles)) ≡ true
 reply-known r payload handles named small =
     ap (λ b. is_some (cond b (request_of (request_number r)) None)) (sendable-valid true false (request_number r) (length (payload_text payload)) small)
     ∙ ap (λ x. is_some x) (request_of-request_number r named)
 
 -- a reply answers each header of its code that was sent without REPLY
-pub reply-answers : {H : Type 0} (r : FrontendReq) (payload : Payload) (handles : List H) (sent : Header) → is_named r ≡ true
+pub reply-answers : {H : Type 0} (r : HeardReq) (payload : Payload) (handles : List H) (sent : Header) → is_named r ≡ true
     → sent.code ≡ request_number r → has_bit sent.flags 2 ≡ false → answers sent (head_of request_number (reply_to r payload handles)) ≡ true
 reply-answers r payload handles sent named code flag =
     ap (λ x. is_some x && request_number r == sent.code && true && not (has_bit sent.flags 2)) (request_of-request_number r named)
@@ -46,7 +46,7 @@ reply-answers r payload handles sent named code flag =
 
 module _ (H : Type 0) where
   -- what a reply to a request is received as
-  abbrev pub the_reply : FrontendReq → Payload → List H → List ℕ → List ℕ → Received H
+  abbrev pub the_reply : HeardReq → Payload → List H → List ℕ → List ℕ → Received H
   the_reply r payload handles body more = record { header = head_of request_number (reply_to r payload handles); body = body; payload = more; handles = handles }
 
   -- the one shape whose reply may have any size has nothing behind its record
@@ -55,7 +55,7 @@ module _ (H : Type 0) where
   IsAlone _ more = Unit {0}
 
   -- A payload that the call's reply may have: a record of the shape, and as much behind it as there is room for.
-  pub record IsReadable (call : FrontendCall H) (shape : Shape) (r : FrontendReq) (payload : Payload) (handles : List H) : Type 0 where
+  pub record IsReadable (call : FrontendCall H) (shape : Shape) (r : HeardReq) (payload : Payload) (handles : List H) : Type 0 where
     pub named : is_named r ≡ true
     pub body : List ℕ
     pub more : List ℕ
@@ -69,43 +69,43 @@ module _ (H : Type 0) where
     pub sized : is_sized call (the_reply r payload handles body more) ≡ true
 
   -- the reply is cut from the stream as it was written
-  pub split-cut : (call : FrontendCall H) (shape : Shape) (r : FrontendReq) (payload : Payload) (handles : List H) (rest : List (Cell H)) (k : IsReadable call shape r payload handles)
+  pub split-cut : (call : FrontendCall H) (shape : Shape) (r : HeardReq) (payload : Payload) (handles : List H) (rest : List (Cell H)) (k : IsReadable call shape r payload handles)
       → reply_split is_known (record_size shape) (is_valid_record shape) (room call) (written_cells request_number (reply_to r payload handles) ++ rest)
       ≡ (Ok (the_reply r payload handles k.body k.more), rest)
   split-cut call shape r payload handles rest k =
-      let w : Written FrontendReq H = reply_to r payload handles in
+      let w : Written HeardReq H = reply_to r payload handles in
       ap (λ n. reply_split is_known n (is_valid_record shape) (room call) (written_cells request_number w ++ rest)) (sym k.size)
       ∙ ap (λ n. reply_split is_known (length (k.body)) (is_valid_record shape) n (written_cells request_number w ++ rest)) (sym k.rest)
       ∙ reply-read request_number is_known (is_valid_record shape) w k.body k.more rest k.text (request-small r k.named) (omega (arith, k.small)) (reply-known r payload handles k.named k.small) k.valid
 
   -- the same by its header
-  pub whole-cut : (call : FrontendCall H) (shape : Shape) (r : FrontendReq) (payload : Payload) (handles : List H) (rest : List (Cell H)) (k : IsReadable call shape r payload handles)
+  pub whole-cut : (call : FrontendCall H) (shape : Shape) (r : HeardReq) (payload : Payload) (handles : List H) (rest : List (Cell H)) (k : IsReadable call shape r payload handles)
       → sized_split is_known (record_size shape) (is_valid_record shape) (room call) (written_cells request_number (reply_to r payload handles) ++ rest)
       ≡ (Ok (the_reply r payload handles k.body k.more), rest)
   whole-cut call shape r payload handles rest k =
-      let w : Written FrontendReq H = reply_to r payload handles in
+      let w : Written HeardReq H = reply_to r payload handles in
       ap (λ n. sized_split is_known n (is_valid_record shape) (room call) (written_cells request_number w ++ rest)) (sym k.size)
       ∙ ap (λ n. sized_split is_known (length (k.body)) (is_valid_record shape) n (written_cells request_number w ++ rest)) (sym k.rest)
       ∙ sized-read request_number is_known (is_valid_record shape) w k.body k.more rest true k.text (request-small r k.named) (omega (arith, k.small)) (reply-known r payload handles k.named k.small) k.valid
 
   -- the log's, of whatever size
-  log-cut : (call : FrontendCall H) (r : FrontendReq) (payload : Payload) (handles : List H) (rest : List (Cell H)) (k : IsReadable call shape.Log r payload handles)
+  log-cut : (call : FrontendCall H) (r : HeardReq) (payload : Payload) (handles : List H) (rest : List (Cell H)) (k : IsReadable call shape.Log r payload handles)
       → reply_cut shape.Log Standard (room call) (written_cells request_number (reply_to r payload handles) ++ rest) ≡ (Ok (the_reply r payload handles k.body k.more), rest)
   log-cut call r payload handles rest k =
       whole-read request_number is_known (reply_to r payload handles) rest (request-small r k.named) (omega (arith, k.small)) (reply-known r payload handles k.named k.small)
       ∙ ap (λ text. (Ok (the_reply r payload handles text []), rest)) (k.text ∙ ap (λ more. k.body ++ more) k.alone ∙ append-nil (k.body))
       ∙ ap (λ more. (Ok (the_reply r payload handles k.body more), rest)) (sym k.alone)
 
-  base-cut : (call : FrontendCall H) (r : FrontendReq) (payload : Payload) (handles : List H) (rest : List (Cell H)) (k : IsReadable call shape.Log r payload handles)
+  base-cut : (call : FrontendCall H) (r : HeardReq) (payload : Payload) (handles : List H) (rest : List (Cell H)) (k : IsReadable call shape.Log r payload handles)
       → reply_cut shape.Log Vhost (room call) (written_cells request_number (reply_to r payload handles) ++ rest) ≡ (Ok (the_reply r payload handles k.body k.more), rest)
   base-cut call r payload handles rest k =
-      let w : Written FrontendReq H = reply_to r payload handles in
+      let w : Written HeardReq H = reply_to r payload handles in
       ap (λ more. reply_split is_known 16 (is_valid_record shape.Log) (length more) (written_cells request_number w ++ rest)) (sym k.alone)
       ∙ ap (λ n. reply_split is_known 16 (is_valid_record shape.Log) n (written_cells request_number w ++ rest)) k.rest
       ∙ split-cut call shape.Log r payload handles rest k
 
   -- by each profile
-  pub reply-cut : (profile : Profile) (call : FrontendCall H) (shape : Shape) (r : FrontendReq) (payload : Payload) (handles : List H) (rest : List (Cell H)) (k : IsReadable call shape r payload handles)
+  pub reply-cut : (profile : Profile) (call : FrontendCall H) (shape : Shape) (r : HeardReq) (payload : Payload) (handles : List H) (rest : List (Cell H)) (k : IsReadable call shape r payload handles)
       → reply_cut shape profile (room call) (written_cells request_number (reply_to r payload handles) ++ rest) ≡ (Ok (the_reply r payload handles k.body k.more), rest)
   reply-cut Vhost call shape.Log r payload handles rest k = base-cut call r payload handles rest k
   reply-cut Vhost call _ r payload handles rest k = split-cut call _ r payload handles rest k
@@ -113,7 +113,7 @@ module _ (H : Type 0) where
   reply-cut Standard call _ r payload handles rest k = whole-cut call _ r payload handles rest k
 
   -- a reply that answers is understood as what was served
-  pub reply-understood : (call : FrontendCall H) (shape : Shape) (sent : Header) (f : Frontend) (r : FrontendReq) (payload : Payload) (handles : List H) (k : IsReadable call shape r payload handles)
+  pub reply-understood : (call : FrontendCall H) (shape : Shape) (sent : Header) (f : Frontend) (r : HeardReq) (payload : Payload) (handles : List H) (k : IsReadable call shape r payload handles)
       → sent.code ≡ request_number r → has_bit sent.flags 2 ≡ false
       → understood call (Reply shape) sent f (Ok (the_reply r payload handles k.body k.more)) ≡ answer call (Reply shape) f (Replied payload handles)
   reply-understood call shape sent f r payload handles k code flag =
@@ -133,7 +133,7 @@ module _ (H : Type 0) where
   plainly _ shape sent f cells plain = refl
 
   -- the reply that was served is taken, and what follows it is left
-  pub take-replied : (call : FrontendCall H) (shape : Shape) (sent : Header) (f : Frontend) (r : FrontendReq) (payload : Payload) (handles : List H) (rest : List (Cell H))
+  pub take-replied : (call : FrontendCall H) (shape : Shape) (sent : Header) (f : Frontend) (r : HeardReq) (payload : Payload) (handles : List H) (rest : List (Cell H))
       → IsPlainly call → IsReadable call shape r payload handles → sent.code ≡ request_number r → has_bit sent.flags 2 ≡ false
       → take call (Reply shape) sent f (cells_of request_number (reply r (Replied payload handles)) ++ rest) ≡ (answer call (Reply shape) f (Replied payload handles), rest)
   take-replied call shape sent f r payload handles rest plain k code flag =
@@ -144,7 +144,7 @@ module _ (H : Type 0) where
       ∙ ap (λ x. (x, rest)) (reply-understood call shape sent f r payload handles k code flag)
 
   -- an acknowledgement is cut from the stream as it was written
-  ack-cut : (profile : Profile) (r : FrontendReq) (agreed : Bool) (rest : List (Cell H)) → is_named r ≡ true
+  ack-cut : (profile : Profile) (r : HeardReq) (agreed : Bool) (rest : List (Cell H)) → is_named r ≡ true
       → reply_cut shape.U64 profile 0 (cells_of request_number (reply r (Acknowledged agreed)) ++ rest) ≡ (Ok (the_reply r (U64 (if agreed then 0 else 1)) [] (digits 8 (if agreed then 0 else 1)) []), rest)
   ack-cut Vhost r agreed rest named =
       let n : ℕ = if agreed then 0 else 1 in
@@ -159,7 +159,7 @@ module _ (H : Type 0) where
   ack-told call f false = refl
 
   -- an acknowledgement is taken, and what follows it is left
-  pub take-acknowledged : (call : FrontendCall H) (sent : Header) (f : Frontend) (r : FrontendReq) (agreed : Bool) (rest : List (Cell H))
+  pub take-acknowledged : (call : FrontendCall H) (sent : Header) (f : Frontend) (r : HeardReq) (agreed : Bool) (rest : List (Cell H))
       → sent.code ≡ request_number r → has_bit sent.flags 2 ≡ false → is_named r ≡ true
       → take call Ack sent f (cells_of request_number (reply r (Acknowledged agreed)) ++ rest) ≡ (answer call Ack f (Acknowledged agreed), rest)
   take-acknowledged call sent f r agreed rest code flag named =
@@ -184,7 +184,7 @@ module _ (H : Type 0) where
   short-sized (GetConfig offset size flags buffer) r short = absurd short
   short-sized _ r short = refl
 
-  pub readable-number : (call : FrontendCall H) (r : FrontendReq) (n : ℕ) (handles : List H) → IsShort call → n < 2 ^ 64 → is_named r ≡ true → IsReadable call shape.U64 r (U64 n) handles
+  pub readable-number : (call : FrontendCall H) (r : HeardReq) (n : ℕ) (handles : List H) → IsShort call → n < 2 ^ 64 → is_named r ≡ true → IsReadable call shape.U64 r (U64 n) handles
   readable-number call r n handles short fits named = record {
     named = named;
     body = digits 8 n;
@@ -199,7 +199,7 @@ module _ (H : Type 0) where
     sized = short-sized call (the_reply r (U64 n) handles (digits 8 n) []) short;
   }
 
-  pub readable-empty : (call : FrontendCall H) (r : FrontendReq) (handles : List H) → IsShort call → is_named r ≡ true → IsReadable call shape.Empty r Empty handles
+  pub readable-empty : (call : FrontendCall H) (r : HeardReq) (handles : List H) → IsShort call → is_named r ≡ true → IsReadable call shape.Empty r Empty handles
   readable-empty call r handles short named = record {
     named = named;
     body = [];

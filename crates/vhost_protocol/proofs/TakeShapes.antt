@@ -4,7 +4,7 @@ use Rattle.std.specs.Prelude.{◌==◌, ◌||◌, flat_map, All}
 use Rattle.std.proofs.lemmas.Bool.{eq-eqb, ne_eqb}
 use Rattle.std.proofs.lemmas.List.{append-nil}
 use Rattle.vhost_message.specs.declared.limits.TheConstants.{MAX_MEM_REGIONS, MAX_MSG_SIZE, MEMORY_REGION_SIZE}
-use Rattle.vhost_message.specs.declared.frontend_req.FrontendReq.{FrontendReq}
+use Rattle.vhost_message.specs.declared.heard_req.HeardReq.{HeardReq}
 use Rattle.vhost_message.specs.declared.records.config.VhostUserConfig.{VhostUserConfig}
 use Rattle.vhost_message.specs.declared.records.inflight.VhostUserInflight.{VhostUserInflight}
 use Rattle.vhost_message.specs.declared.records.log.VhostUserLog.{VhostUserLog}
@@ -17,7 +17,7 @@ use Rattle.vhost_message.specs.RecordLaws.{RegionFits, SingleRegionFits, VringSt
 use Rattle.vhost_message.specs.Records.{region_text, regions_of, memory_of, memory_text, single_region_text, shmem_config_text, vring_state_text, config_text, inflight_text, log_text}
 use Rattle.vhost_message.specs.Valid.{is_valid_config, is_valid_inflight, is_valid_log}
 use Rattle.vhost_message.specs.Bits.{has_bit}
-use Rattle.vhost_message.specs.FrontendReq.{request_number, is_named}
+use Rattle.vhost_message.specs.HeardReq.{request_number, is_named}
 use Rattle.vhost_message.specs.Header.{Header, header_of, header_text}
 use Rattle.vhost_protocol.specs.AnswerTable.{answered, answer, inflight_reply, only_if}
 use Rattle.vhost_protocol.specs.declared.asked.Awaited.TheVariants.{Nobody, Ack, Reply}
@@ -41,7 +41,7 @@ use Rattle.vhost_protocol.proofs.TextLaws.{request-small, header-read}
 use Rattle.vhost_protocol.proofs.WholeLaws.{the_whole, whole-read, sized-read, right-size, apart-read}
 
 module _ (H : Type 0) where
-  readable-ring : (call : FrontendCall H) (r : FrontendReq) (v : VhostUserVringState) (handles : List H) → IsShort call → VringStateFits v → is_named r ≡ true → IsReadable H call shape.VringState r (RingState v) handles
+  readable-ring : (call : FrontendCall H) (r : HeardReq) (v : VhostUserVringState) (handles : List H) → IsShort call → VringStateFits v → is_named r ≡ true → IsReadable H call shape.VringState r (RingState v) handles
   readable-ring call r v handles short fits named = record {
     named = named;
     body = vring_state_text v;
@@ -56,7 +56,7 @@ module _ (H : Type 0) where
     sized = short-sized H call (the_reply H r (RingState v) handles (vring_state_text v) []) short;
   }
 
-  readable-region : (call : FrontendCall H) (r : FrontendReq) (v : VhostUserSingleMemoryRegion) (handles : List H) → IsShort call → SingleRegionFits v → is_named r ≡ true → IsReadable H call shape.SingleMemoryRegion r (OneRegion v) handles
+  readable-region : (call : FrontendCall H) (r : HeardReq) (v : VhostUserSingleMemoryRegion) (handles : List H) → IsShort call → SingleRegionFits v → is_named r ≡ true → IsReadable H call shape.SingleMemoryRegion r (OneRegion v) handles
   readable-region call r v handles short fits named = record {
     named = named;
     body = single_region_text v;
@@ -71,7 +71,7 @@ module _ (H : Type 0) where
     sized = short-sized H call (the_reply H r (OneRegion v) handles (single_region_text v) []) short;
   }
 
-  readable-inflight : (call : FrontendCall H) (r : FrontendReq) (i : VhostUserInflight) (handles : List H) → IsShort call → is_valid_inflight i ≡ true → InflightFits i → is_named r ≡ true → IsReadable H call shape.Inflight r (InflightArea i) handles
+  readable-inflight : (call : FrontendCall H) (r : HeardReq) (i : VhostUserInflight) (handles : List H) → IsShort call → is_valid_inflight i ≡ true → InflightFits i → is_named r ≡ true → IsReadable H call shape.Inflight r (InflightArea i) handles
   readable-inflight call r i handles short valid fits named = record {
     named = named;
     body = inflight_text i;
@@ -86,7 +86,7 @@ module _ (H : Type 0) where
     sized = short-sized H call (the_reply H r (InflightArea i) handles (inflight_text i) []) short;
   }
 
-  readable-log : (call : FrontendCall H) (r : FrontendReq) (l : VhostUserLog) (handles : List H) → IsShort call → is_valid_log l ≡ true → LogFits l → is_named r ≡ true → IsReadable H call shape.Log r (LogArea l) handles
+  readable-log : (call : FrontendCall H) (r : HeardReq) (l : VhostUserLog) (handles : List H) → IsShort call → is_valid_log l ≡ true → LogFits l → is_named r ≡ true → IsReadable H call shape.Log r (LogArea l) handles
   readable-log call r l handles short valid fits named = record {
     named = named;
     body = log_text l;
@@ -101,7 +101,7 @@ module _ (H : Type 0) where
     sized = short-sized H call (the_reply H r (LogArea l) handles (log_text l) []) short;
   }
 
-  readable-shmem : (call : FrontendCall H) (r : FrontendReq) (c : VhostUserShMemConfig) (handles : List H) → IsShort call → ShMemConfigFits c → is_named r ≡ true → IsReadable H call shape.ShMemConfig r (Shmem c) handles
+  readable-shmem : (call : FrontendCall H) (r : HeardReq) (c : VhostUserShMemConfig) (handles : List H) → IsShort call → ShMemConfigFits c → is_named r ≡ true → IsReadable H call shape.ShMemConfig r (Shmem c) handles
   readable-shmem call r c handles short fits named = record {
     named = named;
     body = shmem_config_text c;
@@ -117,7 +117,7 @@ module _ (H : Type 0) where
   }
 
   -- the table of as many regions as were sent
-  readable-table : (infos : List (Info H)) (r : FrontendReq) (rs : List VhostUserMemoryRegion) (handles : List H) → length rs ≡ length infos → 1 ≤ length rs → length rs ≤ MAX_MEM_REGIONS → All RegionFits rs → is_named r ≡ true → IsReadable H (SetMemTable infos) shape.Memory r (Regions rs) handles
+  readable-table : (infos : List (Info H)) (r : HeardReq) (rs : List VhostUserMemoryRegion) (handles : List H) → length rs ≡ length infos → 1 ≤ length rs → length rs ≤ MAX_MEM_REGIONS → All RegionFits rs → is_named r ≡ true → IsReadable H (SetMemTable infos) shape.Memory r (Regions rs) handles
   readable-table infos r rs handles same least most fits named =
       let bytes : length (flat_map region_text rs) ≡ MEMORY_REGION_SIZE * length rs = regions-length rs in record {
         named = named;
@@ -139,7 +139,7 @@ module _ (H : Type 0) where
       }
 
   -- an area that is not valid is read whole
-  invalid-cut : (profile : Profile) (r : FrontendReq) (i : VhostUserInflight) (handles : List H) (rest : List (Cell H)) → is_valid_inflight i ≡ false → InflightFits i → is_named r ≡ true
+  invalid-cut : (profile : Profile) (r : HeardReq) (i : VhostUserInflight) (handles : List H) (rest : List (Cell H)) → is_valid_inflight i ≡ false → InflightFits i → is_named r ≡ true
       → reply_cut shape.Inflight profile 0 (cells_of request_number (reply r (Replied (InflightArea i) handles)) ++ rest) ≡ (Err InvalidMessage, rest)
   invalid-cut Vhost r i handles rest invalid fits named =
       reply-invalid request_number is_known (is_valid_record shape.Inflight) (reply_to r (InflightArea i) handles) (inflight_text i) [] rest refl (request-small r named) (lit< tt) (reply-known r (InflightArea i) handles named (lit< tt)) (ap (λ x. is_valid_inflight x) (inflight-reads_back i fits) ∙ invalid)
@@ -147,16 +147,16 @@ module _ (H : Type 0) where
       sized-read request_number is_known (is_valid_record shape.Inflight) (reply_to r (InflightArea i) handles) (inflight_text i) [] rest false refl (request-small r named) (lit< tt) (reply-known r (InflightArea i) handles named (lit< tt)) (ap (λ x. is_valid_inflight x) (inflight-reads_back i fits) ∙ invalid)
 
   -- it is refused, as the answer table says
-  take-invalid : (asked : VhostUserInflight) (sent : Header) (f : Frontend) (r : FrontendReq) (i : VhostUserInflight) (handles : List H) (rest : List (Cell H)) → has_bit sent.flags 2 ≡ false → is_valid_inflight i ≡ false → InflightFits i → is_named r ≡ true
+  take-invalid : (asked : VhostUserInflight) (sent : Header) (f : Frontend) (r : HeardReq) (i : VhostUserInflight) (handles : List H) (rest : List (Cell H)) → has_bit sent.flags 2 ≡ false → is_valid_inflight i ≡ false → InflightFits i → is_named r ≡ true
       → take (GetInflightFd asked) (Reply shape.Inflight) sent f (cells_of request_number (reply r (Replied (InflightArea i) handles)) ++ rest) ≡ (answer (GetInflightFd asked) (Reply shape.Inflight) f (Replied (InflightArea i) handles), rest)
   take-invalid asked sent f r i handles rest flag invalid fits named =
-      let w : Written FrontendReq H = reply_to r (InflightArea i) handles in
+      let w : Written HeardReq H = reply_to r (InflightArea i) handles in
       let cells : List (Cell H) = written_cells request_number w ++ rest in
       ap (λ b. cond b (Some (answered f (Err InvalidParam)), cells) (take_reply (GetInflightFd asked) shape.Inflight sent f cells)) flag
       ∙ ap (λ cut. (understood (GetInflightFd asked) (Reply shape.Inflight) sent f cut.0, cut.1)) (invalid-cut f.profile r i handles rest invalid fits named)
       ∙ ap (λ b. (Some (answered f (cond b (inflight_reply f i handles) (Err InvalidMessage))), rest)) (sym invalid)
 
-  take-inflight : (asked : VhostUserInflight) (sent : Header) (f : Frontend) (r : FrontendReq) (i : VhostUserInflight) (handles : List H) (rest : List (Cell H)) → IsSentFor r sent → InflightFits i
+  take-inflight : (asked : VhostUserInflight) (sent : Header) (f : Frontend) (r : HeardReq) (i : VhostUserInflight) (handles : List H) (rest : List (Cell H)) → IsSentFor r sent → InflightFits i
       → take (GetInflightFd asked) (Reply shape.Inflight) sent f (cells_of request_number (reply r (Replied (InflightArea i) handles)) ++ rest) ≡ (answer (GetInflightFd asked) (Reply shape.Inflight) f (Replied (InflightArea i) handles), rest)
   take-inflight asked sent f r i handles rest of_r fits = go (is_valid_inflight i) refl
     where
@@ -166,7 +166,7 @@ module _ (H : Type 0) where
 
   -- ---- configuration bytes
 
-  readable-config : (o n k : ℕ) (buffer : List ℕ) (r : FrontendReq) (c : VhostUserConfig) (bytes : List ℕ) (handles : List H) → length bytes ≡ length buffer → 12 + length bytes ≤ MAX_MSG_SIZE → is_valid_config c ≡ true → ConfigFits c
+  readable-config : (o n k : ℕ) (buffer : List ℕ) (r : HeardReq) (c : VhostUserConfig) (bytes : List ℕ) (handles : List H) → length bytes ≡ length buffer → 12 + length bytes ≤ MAX_MSG_SIZE → is_valid_config c ≡ true → ConfigFits c
       → is_named r ≡ true → IsReadable H (GetConfig o n k buffer) shape.Config r (ConfigBytes c bytes) handles
   readable-config o n k buffer r c bytes handles same small valid fits named = record {
     named = named;
@@ -188,11 +188,11 @@ module _ (H : Type 0) where
   bare-test : Header → Header → Bool → ℕ → Bool
   bare-test sent h brings size = is_known h && answers sent h && h.size == 12 && not brings && size == 0
 
-  bare-known : (sent : Header) (r : FrontendReq) (c : VhostUserConfig) → IsSentFor r sent → c.size ≡ 0 → ConfigFits c
+  bare-known : (sent : Header) (r : HeardReq) (c : VhostUserConfig) → IsSentFor r sent → c.size ≡ 0 → ConfigFits c
       → bare-test sent (header_of (header_text (head_of request_number (reply_to {H = H} r (ConfigBytes c []) [])))) false (number_at 4 4 (config_text c)) ≡ true
   unfolding bare-test
   bare-known sent r c of_r none fits =
-      let w : Written FrontendReq H = reply_to r (ConfigBytes c []) [] in
+      let w : Written HeardReq H = reply_to r (ConfigBytes c []) [] in
       let h : Header = head_of request_number w in
       ap (λ x. bare-test sent x false (number_at 4 4 (config_text c))) (header-read h (request-small r of_r.2) (lit< tt) (lit< tt))
       ∙ ap (λ b. b && answers sent h && true && true && number_at 4 4 (config_text c) == 0) (reply-known {H = H} r (ConfigBytes c []) [] of_r.2 (lit< tt))
@@ -200,24 +200,24 @@ module _ (H : Type 0) where
       ∙ eq-eqb (number_at 4 4 (config_text c)) 0 (ap (λ x. x.size) (config-reads_back c fits) ∙ none)
 
   -- a bare reply is read whole
-  bare-cut : (profile : Profile) (sent : Header) (room : ℕ) (r : FrontendReq) (c : VhostUserConfig) (rest : List (Cell H)) → IsSentFor r sent → c.size ≡ 0 → ConfigFits c
+  bare-cut : (profile : Profile) (sent : Header) (room : ℕ) (r : HeardReq) (c : VhostUserConfig) (rest : List (Cell H)) → IsSentFor r sent → c.size ≡ 0 → ConfigFits c
       → config_cut profile sent room (cells_of request_number (reply r (Replied (ConfigBytes c []) [])) ++ rest) ≡ (Ok None, rest)
   unfolding bare_or_reply bare-test
   bare-cut Vhost sent room r c rest of_r none fits =
       let cells : List (Cell H) = written_cells request_number (reply_to r (ConfigBytes c []) []) ++ rest in
       ap (λ x. cond x (Ok None, rest) (not_bare is_known (reply_split is_known 12 (is_valid_record shape.Config) room cells))) (bare-known sent r c of_r none fits)
   bare-cut Standard sent room r c rest of_r none fits =
-      let w : Written FrontendReq H = reply_to r (ConfigBytes c []) [] in
+      let w : Written HeardReq H = reply_to r (ConfigBytes c []) [] in
       ap (λ cut. then_made is_known (parted_or_none is_known (answers sent) (is_valid_record shape.Config) room) cut)
       (whole-read request_number (has_config_size is_known room) w rest (request-small r of_r.2) (lit< tt) (ap (λ b. b && true) (reply-known {H = H} r (ConfigBytes c []) [] of_r.2 (lit< tt))))
       ∙ ap (λ b. (cond (b && true && (number_at 4 4 (config_text c) == 0)) (Ok None) (right w), rest)) (reply-answers {H = H} r (ConfigBytes c []) [] sent of_r.2 of_r.0 of_r.1)
       ∙ ap (λ b. (cond b (Ok None) (right w), rest)) (eq-eqb (number_at 4 4 (config_text c)) 0 (ap (λ x. x.size) (config-reads_back c fits) ∙ none))
     where
-      right : Written FrontendReq H → Result (Option (Received H)) Error
+      right : Written HeardReq H → Result (Option (Received H)) Error
       right w = let r = the_whole request_number is_known w in cond (is_right is_known 12 (is_valid_record shape.Config) room r) (Ok (Some (apart is_known 12 r))) (Err InvalidMessage)
 
   -- and taken whole
-  take-bare : (o n k b : ℕ) (buffer : List ℕ) (sent : Header) (f : Frontend) (r : FrontendReq) (c : VhostUserConfig) (rest : List (Cell H)) → IsSentFor r sent → c.size ≡ 0 → ConfigFits c
+  take-bare : (o n k b : ℕ) (buffer : List ℕ) (sent : Header) (f : Frontend) (r : HeardReq) (c : VhostUserConfig) (rest : List (Cell H)) → IsSentFor r sent → c.size ≡ 0 → ConfigFits c
       → take (GetConfig o n k (b ∷ buffer)) (Reply shape.Config) sent f (cells_of request_number (reply r (Replied (ConfigBytes c []) [])) ++ rest)
       ≡ (answer (GetConfig o n k (b ∷ buffer)) (Reply shape.Config) f (Replied (ConfigBytes c []) []), rest)
   take-bare o n k b buffer sent f r c rest of_r none fits =
@@ -228,12 +228,12 @@ module _ (H : Type 0) where
       ∙ ap (λ x. (Some (answered f (cond x (Err BackendInternalError) (only_if (c.offset == o && c.size == n && c.size == length (b ∷ buffer)) InvalidMessage (ConfigOf c [])))), rest)) (sym (ap (λ x. x && true) (eq-eqb c.size 0 none)))
 
   -- a reply with bytes is not bare: its size says so
-  full-known : (sent : Header) (r : FrontendReq) (c : VhostUserConfig) (x : ℕ) (bytes : List ℕ) (handles : List H) (brings : Bool) → IsSentFor r sent → 12 + length (x ∷ bytes) ≤ MAX_MSG_SIZE
+  full-known : (sent : Header) (r : HeardReq) (c : VhostUserConfig) (x : ℕ) (bytes : List ℕ) (handles : List H) (brings : Bool) → IsSentFor r sent → 12 + length (x ∷ bytes) ≤ MAX_MSG_SIZE
       → bare-test sent (header_of (header_text (head_of request_number (reply_to {H = H} r (ConfigBytes c (x ∷ bytes)) handles)))) brings (number_at 4 4 (config_text c)) ≡ false
   unfolding bare-test
   full-known sent r c x bytes handles brings of_r small =
       let p : Payload = ConfigBytes c (x ∷ bytes) in
-      let w : Written FrontendReq H = reply_to r p handles in
+      let w : Written HeardReq H = reply_to r p handles in
       let h : Header = head_of request_number w in
       ap (λ y. bare-test sent y brings (number_at 4 4 (config_text c))) (header-read h (request-small r of_r.2) (lit< tt) (omega (arith, small)))
       ∙ ap (λ b. b && answers sent h && h.size == 12 && not brings && number_at 4 4 (config_text c) == 0) (reply-known {H = H} r p handles of_r.2 (omega (arith, small)))
@@ -258,7 +258,7 @@ module _ (H : Type 0) where
       or-last false false c h = h
 
   -- it is read with its bytes
-  full-cut : (profile : Profile) (o n k b : ℕ) (buffer : List ℕ) (sent : Header) (r : FrontendReq) (c : VhostUserConfig) (x : ℕ) (bytes : List ℕ) (handles : List H) (rest : List (Cell H)) → IsSentFor r sent → 12 + length (x ∷ bytes) ≤ MAX_MSG_SIZE
+  full-cut : (profile : Profile) (o n k b : ℕ) (buffer : List ℕ) (sent : Header) (r : HeardReq) (c : VhostUserConfig) (x : ℕ) (bytes : List ℕ) (handles : List H) (rest : List (Cell H)) → IsSentFor r sent → 12 + length (x ∷ bytes) ≤ MAX_MSG_SIZE
       → (kept : IsReadable H (GetConfig o n k (b ∷ buffer)) shape.Config r (ConfigBytes c (x ∷ bytes)) handles)
       → config_cut profile sent (length (b ∷ buffer)) (cells_of request_number (reply r (Replied (ConfigBytes c (x ∷ bytes)) handles)) ++ rest) ≡ (Ok (Some (the_reply H r (ConfigBytes c (x ∷ bytes)) handles kept.body kept.more)), rest)
   unfolding bare_or_reply bare-test
@@ -279,7 +279,7 @@ module _ (H : Type 0) where
       p : Payload
       p = ConfigBytes c (x ∷ bytes)
 
-      w : Written FrontendReq H
+      w : Written HeardReq H
       w = reply_to r p handles
 
       valid : List ℕ → Bool
@@ -292,7 +292,7 @@ module _ (H : Type 0) where
       right size room = cond (is_right is_known size valid room whole) (Ok (Some (apart is_known size whole))) (Err InvalidMessage)
 
   -- it is taken with its bytes
-  take-full : (o n k b : ℕ) (buffer : List ℕ) (sent : Header) (f : Frontend) (r : FrontendReq) (c : VhostUserConfig) (bytes : List ℕ) (handles : List H) (rest : List (Cell H)) → IsSentFor r sent
+  take-full : (o n k b : ℕ) (buffer : List ℕ) (sent : Header) (f : Frontend) (r : HeardReq) (c : VhostUserConfig) (bytes : List ℕ) (handles : List H) (rest : List (Cell H)) → IsSentFor r sent
       → length bytes ≡ length (b ∷ buffer) → 12 + length bytes ≤ MAX_MSG_SIZE → is_valid_config c ≡ true → ConfigFits c
       → take (GetConfig o n k (b ∷ buffer)) (Reply shape.Config) sent f (cells_of request_number (reply r (Replied (ConfigBytes c bytes) handles)) ++ rest)
       ≡ (answer (GetConfig o n k (b ∷ buffer)) (Reply shape.Config) f (Replied (ConfigBytes c bytes) handles), rest)
@@ -308,7 +308,7 @@ module _ (H : Type 0) where
 
   -- ---- all of them
 
-  take-config : (call : FrontendCall H) (sent : Header) (f : Frontend) (r : FrontendReq) (c : VhostUserConfig) (bytes : List ℕ) (handles : List H) (rest : List (Cell H)) → IsSentFor r sent → IsConfigOf call c bytes handles → ConfigFits c
+  take-config : (call : FrontendCall H) (sent : Header) (f : Frontend) (r : HeardReq) (c : VhostUserConfig) (bytes : List ℕ) (handles : List H) (rest : List (Cell H)) → IsSentFor r sent → IsConfigOf call c bytes handles → ConfigFits c
       → take call (Reply shape.Config) sent f (cells_of request_number (reply r (Replied (ConfigBytes c bytes) handles)) ++ rest) ≡ (answer call (Reply shape.Config) f (Replied (ConfigBytes c bytes) handles), rest)
   take-config (GetConfig o n k []) sent f r c bytes handles rest of_r is fits = absurd is
   take-config (GetConfig o n k (b ∷ buffer)) sent f r c bytes handles rest of_r (inl bare) fits =
@@ -320,13 +320,13 @@ module _ (H : Type 0) where
   take-config (GetConfig o n k (b ∷ buffer)) sent f r c bytes handles rest of_r (inr full) fits = take-full o n k b buffer sent f r c bytes handles rest of_r full.0 full.1 full.2 fits
   take-config _ sent f r c bytes handles rest of_r is fits = absurd is
 
-  take-table : (call : FrontendCall H) (sent : Header) (f : Frontend) (r : FrontendReq) (rs : List VhostUserMemoryRegion) (handles : List H) (rest : List (Cell H)) → IsSentFor r sent → IsTableOf call rs → All RegionFits rs
+  take-table : (call : FrontendCall H) (sent : Header) (f : Frontend) (r : HeardReq) (rs : List VhostUserMemoryRegion) (handles : List H) (rest : List (Cell H)) → IsSentFor r sent → IsTableOf call rs → All RegionFits rs
       → take call (Reply shape.Memory) sent f (cells_of request_number (reply r (Replied (Regions rs) handles)) ++ rest) ≡ (answer call (Reply shape.Memory) f (Replied (Regions rs) handles), rest)
   take-table (SetMemTable infos) sent f r rs handles rest of_r is fits =
       take-replied H (SetMemTable infos) shape.Memory sent f r (Regions rs) handles rest tt (readable-table infos r rs handles is.0 is.1 is.2 fits of_r.2) of_r.0 of_r.1
   take-table _ sent f r rs handles rest of_r is fits = absurd is
 
-  take-area : (call : FrontendCall H) (sent : Header) (f : Frontend) (r : FrontendReq) (i : VhostUserInflight) (handles : List H) (rest : List (Cell H)) → IsSentFor r sent → IsInflightOf call → InflightFits i
+  take-area : (call : FrontendCall H) (sent : Header) (f : Frontend) (r : HeardReq) (i : VhostUserInflight) (handles : List H) (rest : List (Cell H)) → IsSentFor r sent → IsInflightOf call → InflightFits i
       → take call (Reply shape.Inflight) sent f (cells_of request_number (reply r (Replied (InflightArea i) handles)) ++ rest) ≡ (answer call (Reply shape.Inflight) f (Replied (InflightArea i) handles), rest)
   take-area (GetInflightFd asked) sent f r i handles rest of_r is fits = take-inflight asked sent f r i handles rest of_r fits
   take-area _ sent f r i handles rest of_r is fits = absurd is

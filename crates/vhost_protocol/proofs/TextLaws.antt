@@ -4,9 +4,9 @@ use Rattle.std.proofs.lemmas.Bool.{le-leb}
 use Rattle.byteorder.specs.Numbers.{little_number-reads_back}
 use Rattle.vhost_message.specs.declared.limits.TheConstants.{MAX_MSG_SIZE}
 use Rattle.vhost_message.specs.Bits.{has_bit}
-use Rattle.vhost_message.specs.declared.frontend_req.FrontendReq.{FrontendReq}
-use Rattle.vhost_message.specs.declared.frontend_req.FrontendReq.TheVariants.{OTHER}
-use Rattle.vhost_message.specs.FrontendReq.{request_number, is_named}
+use Rattle.vhost_message.specs.declared.heard_req.HeardReq.{HeardReq}
+use Rattle.vhost_message.specs.declared.heard_req.HeardReq.TheVariants.{OTHER}
+use Rattle.vhost_message.specs.HeardReq.{request_number, is_named}
 use Rattle.vhost_message.specs.Header.{Header, header_of, header_text, is_valid_header}
 use Rattle.vhost_message.specs.Text.{digits}
 use Rattle.vhost_protocol.specs.Stream.{Cell, bytes, plain, brings_handles}
@@ -17,7 +17,7 @@ use Rattle.vhost_protocol.specs.Joined.{read_as}
 use Rattle.vhost_protocol.proofs.SplitLaws.{body-whole, le-shorter}
 
 -- the number of a request that has a name
-pub request-small : (r : FrontendReq) → is_named r ≡ true → request_number r < 2 ^ 32
+pub request-small : (r : HeardReq) → is_named r ≡ true → request_number r < 2 ^ 32
 request-small (OTHER n) named = absurd (cc named)
 request-small _ named = lit< tt
 

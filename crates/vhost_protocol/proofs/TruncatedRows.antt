@@ -5,8 +5,8 @@ use Rattle.vhost_message.specs.BackendReq.{backend_request_of, backend_request_n
 use Rattle.vhost_message.specs.declared.backend_req.BackendReq.{BackendReq}
 use Rattle.vhost_message.specs.declared.backend_req.BackendReq.TheVariants.{SHARED_OBJECT_ADD, SHMEM_MAP, SHMEM_UNMAP}
 use Rattle.vhost_message.specs.declared.records.shmem.VhostUserMMap.{VhostUserMMap}
-use Rattle.vhost_message.specs.declared.frontend_req.FrontendReq.{FrontendReq}
-use Rattle.vhost_message.specs.FrontendReq.{request_of}
+use Rattle.vhost_message.specs.declared.heard_req.HeardReq.{HeardReq}
+use Rattle.vhost_message.specs.HeardReq.{request_of}
 use Rattle.vhost_message.specs.Records.{mmap_text}
 use Rattle.vhost_protocol.specs.Codes.{allows_handles}
 use Rattle.vhost_protocol.specs.Error.{Error, Disconnected, PartialMessage, InvalidMessage}
@@ -78,7 +78,7 @@ with_handle zero (c ∷ cells) = cell c.byte (7 ∷ []) ∷ cells
 with_handle (suc n) (c ∷ cells) = c ∷ with_handle n cells
 
 -- how many bytes are left behind an invalid message, after at most so many messages
-left_in : Result (Message FrontendReq ℕ) Error × List (Cell ℕ) → (List (Cell ℕ) → Option ℕ) → Option ℕ
+left_in : Result (Message HeardReq ℕ) Error × List (Cell ℕ) → (List (Cell ℕ) → Option ℕ) → Option ℕ
 left_in (Ok m, rest) again = again rest
 left_in (Err InvalidMessage, rest) again = Some (length rest)
 left_in (Err e, rest) again = None

@@ -1,7 +1,7 @@
 -- What stays true of both sides: laws of the protocol table and of the calls of a frontend.
 use Rattle.std.specs.Prelude.{◌≡◌, ◌^◌, ◌<◌, ℤ, Bool, true, false, Option, Some, Result, Err, is_err, ⊤, IfSome}
 use Rattle.vhost_message.specs.Bits.{has_bit}
-use Rattle.vhost_message.specs.declared.frontend_req.FrontendReq.{FrontendReq}
+use Rattle.vhost_message.specs.declared.heard_req.HeardReq.{HeardReq}
 use Rattle.vhost_protocol.specs.AnswerTable.{Answered, answer}
 use Rattle.vhost_protocol.specs.Ask.{Asked, Refuses, Answers, Sends, ask}
 use Rattle.vhost_protocol.specs.declared.asked.Awaited.{Awaited}
@@ -34,11 +34,11 @@ KeepsMark {G = G} s (OpensGpu h next) = (opened : Result G Error) → KeepsMark 
 
 -- no row changes the failure mark, or the profile
 abbrev pub RowsKeepMark : (H B G : Type 0) → Type 0
-RowsKeepMark H B G = (r : FrontendReq) (s : Session) (m : Message FrontendReq H) → KeepsMark {B = B} {G = G} s (row_of r s m)
+RowsKeepMark H B G = (r : HeardReq) (s : Session) (m : Message HeardReq H) → KeepsMark {B = B} {G = G} s (row_of r s m)
 
 -- an error in silence is the last step
 abbrev pub SilentIsLast : (H : Type 0) → Type 0
-SilentIsLast H = (r : FrontendReq) (o : Outcome H) → is_err o.answer ≡ true → is_silent o.served ≡ true → is_last r o ≡ true
+SilentIsLast H = (r : HeardReq) (o : Outcome H) → is_err o.answer ≡ true → is_silent o.served ≡ true → is_last r o ≡ true
 
 -- ---- both sides
 
@@ -53,13 +53,13 @@ Fits (SetProtocolFeatures n) = n < 2 ^ 64
 Fits _ = ⊤
 
 -- the answer table knows what came, and both sides agree from then on, unless this was the last step
-pub record IsKnown {H : Type 0} (call : FrontendCall H) (awaited : Awaited) (g : Frontend) (r : FrontendReq) (o : Outcome H) : Type 0 where
+pub record IsKnown {H : Type 0} (call : FrontendCall H) (awaited : Awaited) (g : Frontend) (r : HeardReq) (o : Outcome H) : Type 0 where
   pub to_caller : Answered H
   pub known : answer call awaited g o.served ≡ Some to_caller
   pub agree : is_last r o ≡ false → AgreeOn (to_caller.session) o.session
 
 -- whatever the device answers
-abbrev pub AllKnown : {H B G : Type 0} → FrontendCall H → Awaited → Frontend → FrontendReq → Session → Step H B G → Type 0
+abbrev pub AllKnown : {H B G : Type 0} → FrontendCall H → Awaited → Frontend → HeardReq → Session → Step H B G → Type 0
 AllKnown call awaited g r s (Refused refusal) = IsKnown call awaited g r (record { answer = Err refusal.error; served = refusal.served; session = s })
 AllKnown call awaited g r s (Calls c next) = (a : Answer c) → IsKnown call awaited g r (next a)
 AllKnown {B = B} call awaited g r s (OpensBackend h next) = (opened : Result B Error) → AllKnown call awaited g r s (next opened)

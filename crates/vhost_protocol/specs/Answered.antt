@@ -1,6 +1,6 @@
 -- What follows from a device's answer, by the call that it answers ("Front-end message types").
 use Rattle.std.specs.Prelude.{ℕ, ◌^◌, true, List, [], ◌∷◌, length, Option, Some, None, Result, Ok, Err, if◌then◌else◌, ◌==◌, bit_or, ⊤}
-use Rattle.vhost_message.specs.declared.frontend_req.FrontendReq.{FrontendReq}
+use Rattle.vhost_message.specs.declared.heard_req.HeardReq.{HeardReq}
 use Rattle.vhost_message.specs.declared.postcopy.PostcopyState.{PostcopyState}
 use Rattle.vhost_message.specs.declared.postcopy.PostcopyState.TheVariants.{Advise, Listen, End}
 use Rattle.vhost_message.specs.declared.records.config.VhostUserConfig.{VhostUserConfig}
@@ -23,7 +23,7 @@ rebased (r ∷ rs) (base ∷ bases) = record r { user_addr = base } ∷ rebased 
 rebased _ _ = []
 
 -- while listening the bases are the reply, one for each region
-abbrev pub with_bases : {H : Type 0} → Session → Message FrontendReq H → List VhostUserMemoryRegion → Result (Option (List ℕ)) Error → Outcome H
+abbrev pub with_bases : {H : Type 0} → Session → Message HeardReq H → List VhostUserMemoryRegion → Result (Option (List ℕ)) Error → Outcome H
 with_bases s m regions (Ok (Some bases)) =
     if length bases == length regions then replied s (Regions (rebased regions bases)) [] else failed_with s m BackendInternalError
 with_bases s m regions (Ok None) = failed_with s m BackendInternalError
@@ -34,7 +34,7 @@ abbrev pub rebased_region : VhostUserSingleMemoryRegion → ℕ → VhostUserSin
 rebased_region r base = record { padding = 0; region = record (r.region) { user_addr = base } }
 
 -- while listening the base is the reply
-abbrev pub with_base : {H : Type 0} → Session → Message FrontendReq H → VhostUserSingleMemoryRegion → Result (Option ℕ) Error → Outcome H
+abbrev pub with_base : {H : Type 0} → Session → Message HeardReq H → VhostUserSingleMemoryRegion → Result (Option ℕ) Error → Outcome H
 with_base s m r (Ok (Some base)) = replied s (OneRegion (rebased_region r base)) []
 with_base s m r (Ok None) = failed_with s m BackendInternalError
 with_base s m r (Err e) = failed_with s m e
@@ -81,7 +81,7 @@ if_agreed s next (Err e) = s
 -- ---- the table
 
 -- what follows from the answer to each call
-abbrev pub answered : {H B G : Type 0} → Session → Message FrontendReq H → (c : Call H B G) → Answer c → Outcome H
+abbrev pub answered : {H B G : Type 0} → Session → Message HeardReq H → (c : Call H B G) → Answer c → Outcome H
 answered s m SetOwner = with_ack s m
 answered s m ResetOwner = with_ack s m
 answered s m ResetDevice = with_ack s m
@@ -126,5 +126,5 @@ answered s m (SetMtu mtu) = with_ack s m
 answered s m (Other request body handles) = with_ack s m
 
 -- the device is called, and its answer followed
-abbrev pub calls : {H B G : Type 0} → Session → Message FrontendReq H → Call H B G → Step H B G
+abbrev pub calls : {H B G : Type 0} → Session → Message HeardReq H → Call H B G → Step H B G
 calls s m c = Calls c (answered s m c)

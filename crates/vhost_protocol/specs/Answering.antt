@@ -1,6 +1,6 @@
 -- Whoever waits is answered: the laws of what a request becomes.
 use Rattle.std.specs.Prelude.{◌≡◌, true, false, ◌⊎◌, Some, Result, Err, is_ok, is_some, length, ⊤}
-use Rattle.vhost_message.specs.declared.frontend_req.FrontendReq.{FrontendReq}
+use Rattle.vhost_message.specs.declared.heard_req.HeardReq.{HeardReq}
 use Rattle.vhost_protocol.specs.declared.profile.Profile.{Profile}
 use Rattle.vhost_protocol.specs.declared.profile.Profile.TheVariants.{Vhost, Standard}
 use Rattle.vhost_protocol.specs.Agreement.{IsNegotiated, Fits}
@@ -21,18 +21,18 @@ use Rattle.vhost_protocol.specs.Step.{Outcome, Step, Refused, Calls, OpensBacken
 -- ---- a request that came whole
 
 -- What is written was waited for: an acknowledgement says whether it succeeded, and a reply is of a request that has one.
-abbrev pub IsAsked : {H : Type 0} → Session → Message FrontendReq H → Result ⊤ Error → Served H → Session → Type 0
+abbrev pub IsAsked : {H : Type 0} → Session → Message HeardReq H → Result ⊤ Error → Served H → Session → Type 0
 IsAsked s m answer Silent t = ⊤
 IsAsked s m answer (Acknowledged agreed) t = (agreed ≡ is_ok answer) × (is_awaited s m (record { answer = answer; served = Acknowledged agreed; session = t }) ≡ true)
 IsAsked s m answer (Replied payload handles) t = awaits_reply s m ≡ true
 
 -- whoever waits is answered once, or the session has ended; and nobody else is
-pub record AnswersWell {H : Type 0} (s : Session) (m : Message FrontendReq H) (o : Outcome H) : Type 0 where
+pub record AnswersWell {H : Type 0} (s : Session) (m : Message HeardReq H) (o : Outcome H) : Type 0 where
   pub answered : is_awaited s m o ≡ true → (is_unanswered (awaits_reply s m) o.served ≡ false) ⊎ (is_some o.session.failed ≡ true)
   pub asked : IsAsked s m o.answer o.served o.session
 
 -- whatever the device answers
-abbrev pub AllWell : {H B G : Type 0} → Session → Message FrontendReq H → Step H B G → Type 0
+abbrev pub AllWell : {H B G : Type 0} → Session → Message HeardReq H → Step H B G → Type 0
 AllWell s m (Refused refusal) = AnswersWell s m (settled s m (record { answer = Err refusal.error; served = refusal.served; session = s }))
 AllWell s m (Calls c next) = (a : Answer c) → AnswersWell s m (settled s m (next a))
 AllWell {B = B} s m (OpensBackend h next) = (opened : Result B Error) → AllWell s m (next opened)
@@ -40,16 +40,16 @@ AllWell {G = G} s m (OpensGpu h next) = (opened : Result G Error) → AllWell s 
 
 -- Under Standard each request is answered well.
 abbrev pub WhoeverWaitsIsAnswered : (H B G : Type 0) → Type 0
-WhoeverWaitsIsAnswered H B G = (s : Session) (m : Message FrontendReq H) → s.profile ≡ Standard → AllWell {B = B} {G = G} s m (row s m)
+WhoeverWaitsIsAnswered H B G = (s : Session) (m : Message HeardReq H) → s.profile ≡ Standard → AllWell {B = B} {G = G} s m (row s m)
 
 -- Under Vhost a request becomes what the table has, no more.
 abbrev pub VhostIsTheTable : (H : Type 0) → Type 0
-VhostIsTheTable H = (s : Session) (m : Message FrontendReq H) (o : Outcome H) → s.profile ≡ Vhost → settled s m o ≡ o
+VhostIsTheTable H = (s : Session) (m : Message HeardReq H) (o : Outcome H) → s.profile ≡ Vhost → settled s m o ≡ o
 
 -- ---- the table
 
 -- the same before silence is settled
-abbrev pub AllAsked : {H B G : Type 0} → Session → Message FrontendReq H → Step H B G → Type 0
+abbrev pub AllAsked : {H B G : Type 0} → Session → Message HeardReq H → Step H B G → Type 0
 AllAsked s m (Refused refusal) = IsAsked s m (Err refusal.error) refusal.served s
 AllAsked s m (Calls c next) = (a : Answer c) → IsAsked s m (next a).answer (next a).served (next a).session
 AllAsked {B = B} s m (OpensBackend h next) = (opened : Result B Error) → AllAsked s m (next opened)
@@ -57,7 +57,7 @@ AllAsked {G = G} s m (OpensGpu h next) = (opened : Result G Error) → AllAsked 
 
 -- the table writes only what was waited for
 abbrev pub RowsAreAsked : (H B G : Type 0) → Type 0
-RowsAreAsked H B G = (r : FrontendReq) (s : Session) (m : Message FrontendReq H) → awaits_reply s m ≡ has_reply r s (length m.body) → AllAsked {B = B} {G = G} s m (row_of r s m)
+RowsAreAsked H B G = (r : HeardReq) (s : Session) (m : Message HeardReq H) → awaits_reply s m ≡ has_reply r s (length m.body) → AllAsked {B = B} {G = G} s m (row_of r s m)
 
 -- ---- both sides
 
@@ -68,7 +68,7 @@ pub record IsHeard {H : Type 0} (call : FrontendCall H) (awaited : Awaited) (g :
   pub agree : is_some o.session.failed ≡ false → AgreeOn (to_caller.session) o.session
 
 -- whatever the device answers
-abbrev pub AllHeard : {H B G : Type 0} → FrontendCall H → Awaited → Frontend → Session → Message FrontendReq H → Step H B G → Type 0
+abbrev pub AllHeard : {H B G : Type 0} → FrontendCall H → Awaited → Frontend → Session → Message HeardReq H → Step H B G → Type 0
 AllHeard call awaited g s m (Refused refusal) = IsHeard call awaited g (settled s m (record { answer = Err refusal.error; served = refusal.served; session = s }))
 AllHeard call awaited g s m (Calls c next) = (a : Answer c) → IsHeard call awaited g (settled s m (next a))
 AllHeard {B = B} call awaited g s m (OpensBackend h next) = (opened : Result B Error) → AllHeard call awaited g s m (next opened)
@@ -83,7 +83,7 @@ StaysHeard B G s call (Sends w awaited g) = AllHeard {B = B} {G = G} call awaite
 -- ---- what was served
 
 -- the answer table knows what came, and both sides agree from then on, unless the run stops there
-pub record IsServed {H : Type 0} (profile : Profile) (call : FrontendCall H) (awaited : Awaited) (g : Frontend) (r : FrontendReq) (o : Outcome H) : Type 0 where
+pub record IsServed {H : Type 0} (profile : Profile) (call : FrontendCall H) (awaited : Awaited) (g : Frontend) (r : HeardReq) (o : Outcome H) : Type 0 where
   pub to_caller : Answered H
   pub known : answer call awaited g o.served ≡ Some to_caller
   pub agree : stops profile r o ≡ false → AgreeOn (to_caller.session) o.session

@@ -3,8 +3,8 @@ use Rattle.std.specs.Prelude.{ℕ, ◌+◌, ◌^◌, Bool, true, false, not, ◌
 use Rattle.std.specs.List.{list_all, filter_map}
 use Rattle.vhost_message.specs.declared.limits.TheConstants.{MAX_MEM_REGIONS, MAX_MSG_SIZE}
 use Rattle.vhost_message.specs.Bits.{has_bit}
-use Rattle.vhost_message.specs.declared.frontend_req.FrontendReq.{FrontendReq}
-use Rattle.vhost_message.specs.declared.frontend_req.FrontendReq.TheVariants.{GET_FEATURES, SET_FEATURES, SET_OWNER, RESET_OWNER, SET_MEM_TABLE, SET_LOG_BASE, SET_LOG_FD, SET_VRING_NUM, SET_VRING_ADDR, SET_VRING_BASE, GET_VRING_BASE, SET_VRING_KICK, SET_VRING_CALL, SET_VRING_ERR, GET_PROTOCOL_FEATURES, SET_PROTOCOL_FEATURES, GET_QUEUE_NUM, SET_VRING_ENABLE, NET_SET_MTU, SET_BACKEND_REQ_FD, GET_CONFIG, SET_CONFIG, POSTCOPY_ADVISE, POSTCOPY_LISTEN, POSTCOPY_END, GET_INFLIGHT_FD, SET_INFLIGHT_FD, RESET_DEVICE, GET_MAX_MEM_SLOTS, ADD_MEM_REG, REM_MEM_REG, GET_SHARED_OBJECT, SET_DEVICE_STATE_FD, CHECK_DEVICE_STATE, GET_SHMEM_CONFIG}
+use Rattle.vhost_message.specs.declared.heard_req.HeardReq.{HeardReq}
+use Rattle.vhost_message.specs.declared.heard_req.HeardReq.TheVariants.{GET_FEATURES, SET_FEATURES, SET_OWNER, RESET_OWNER, SET_MEM_TABLE, SET_LOG_BASE, SET_LOG_FD, SET_VRING_NUM, SET_VRING_ADDR, SET_VRING_BASE, GET_VRING_BASE, SET_VRING_KICK, SET_VRING_CALL, SET_VRING_ERR, GET_PROTOCOL_FEATURES, SET_PROTOCOL_FEATURES, GET_QUEUE_NUM, SET_VRING_ENABLE, NET_SET_MTU, SET_BACKEND_REQ_FD, GET_CONFIG, SET_CONFIG, POSTCOPY_ADVISE, POSTCOPY_LISTEN, POSTCOPY_END, GET_INFLIGHT_FD, SET_INFLIGHT_FD, RESET_DEVICE, GET_MAX_MEM_SLOTS, ADD_MEM_REG, REM_MEM_REG, GET_SHARED_OBJECT, SET_DEVICE_STATE_FD, CHECK_DEVICE_STATE, GET_SHMEM_CONFIG}
 use Rattle.vhost_message.specs.declared.records.config.VhostUserConfig.{VhostUserConfig}
 use Rattle.vhost_message.specs.declared.records.log.VhostUserLog.{VhostUserLog}
 use Rattle.vhost_message.specs.declared.records.memory.VhostUserMemoryRegion.{VhostUserMemoryRegion}
@@ -27,7 +27,7 @@ use Rattle.vhost_protocol.specs.Written.{Payload, Empty, U64, Regions, OneRegion
 pub data Asked (H : Type 0) : Type 0 where
   Refuses : Error → Asked H
   Answers : Value H → Frontend → Asked H
-  Sends : Written FrontendReq H → Awaited → Frontend → Asked H
+  Sends : Written HeardReq H → Awaited → Frontend → Asked H
 
 -- ---- tests, in order
 
@@ -78,11 +78,11 @@ abbrev pub needs_reply : Frontend → Bool
 needs_reply f = has_bit f.header_flags 3 && (if is_standard f.profile then has_bit f.acked_protocol_features REPLY_ACK else true)
 
 -- a message with the session's flags REPLY and NEED_REPLY
-abbrev pub message : {H : Type 0} → Frontend → FrontendReq → Payload → List H → Written FrontendReq H
+abbrev pub message : {H : Type 0} → Frontend → HeardReq → Payload → List H → Written HeardReq H
 message f r payload handles = record { request = r; reply = has_bit f.header_flags 2; need_reply = needs_reply f; payload = payload; handles = handles }
 
 -- the same without NEED_REPLY
-abbrev pub unacknowledged : {H : Type 0} → Frontend → FrontendReq → Payload → List H → Written FrontendReq H
+abbrev pub unacknowledged : {H : Type 0} → Frontend → HeardReq → Payload → List H → Written HeardReq H
 unacknowledged f r payload handles = record (message f r payload handles) { need_reply = false }
 
 -- acknowledgements are on, and the header asks for one
@@ -90,7 +90,7 @@ abbrev pub awaited_ack : Frontend → Awaited
 awaited_ack f = if has_bit f.acked_protocol_features REPLY_ACK && has_bit f.header_flags 3 then Ack else Nobody
 
 -- sent, and perhaps acknowledged
-abbrev pub sends : {H : Type 0} → Frontend → FrontendReq → Payload → List H → Asked H
+abbrev pub sends : {H : Type 0} → Frontend → HeardReq → Payload → List H → Asked H
 sends f r payload handles = Sends (message f r payload handles) (awaited_ack f) f
 
 -- the base of the log alone; under Standard its acknowledgement is awaited like that of every request
@@ -98,15 +98,15 @@ abbrev pub sends_base : {H : Type 0} → Frontend → (base : ℕ) → Asked H
 sends_base f base = Sends (message f SET_LOG_BASE (U64 base) []) (if is_standard f.profile then awaited_ack f else Nobody) f
 
 -- sent, and replied to
-abbrev pub asks : {H : Type 0} → Frontend → FrontendReq → Payload → List H → Shape → Asked H
+abbrev pub asks : {H : Type 0} → Frontend → HeardReq → Payload → List H → Shape → Asked H
 asks f r payload handles shape = Sends (message f r payload handles) (Reply shape) f
 
 -- sent without NEED_REPLY, and replied to
-abbrev pub asks_unacknowledged : {H : Type 0} → Frontend → FrontendReq → Payload → List H → Shape → Asked H
+abbrev pub asks_unacknowledged : {H : Type 0} → Frontend → HeardReq → Payload → List H → Shape → Asked H
 asks_unacknowledged f r payload handles shape = Sends (unacknowledged f r payload handles) (Reply shape) f
 
 -- A message that turns the state of both sides. Under Standard it asks for its acknowledgement wherever that was negotiated, whatever the header flags: a refusal that nobody hears would leave the sides apart.
-abbrev pub turning : {H : Type 0} → Frontend → FrontendReq → Written FrontendReq H
+abbrev pub turning : {H : Type 0} → Frontend → HeardReq → Written HeardReq H
 turning f r = record (message f r Empty []) { need_reply = if is_standard f.profile then has_bit f.acked_protocol_features REPLY_ACK else needs_reply f }
 
 -- and what is awaited of it
@@ -150,7 +150,7 @@ abbrev pub log_area : {H : Type 0} → LogRegion H → VhostUserLog
 log_area r = record { mmap_size = r.mmap_size; mmap_offset = r.mmap_offset }
 
 -- the two requests whose regions are mapped while listening
-abbrev pub is_mapping : FrontendReq → Bool
+abbrev pub is_mapping : HeardReq → Bool
 is_mapping SET_MEM_TABLE = true
 is_mapping ADD_MEM_REG = true
 is_mapping _ = false

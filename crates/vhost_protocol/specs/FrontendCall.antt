@@ -1,6 +1,6 @@
 -- What a caller asks of a frontend, and what it may be answered.
 use Rattle.std.specs.Prelude.{ℕ, Bool, List, Option}
-use Rattle.vhost_message.specs.declared.frontend_req.FrontendReq.{FrontendReq}
+use Rattle.vhost_message.specs.declared.heard_req.HeardReq.{HeardReq}
 use Rattle.vhost_message.specs.declared.postcopy.PostcopyState.{PostcopyState}
 use Rattle.vhost_message.specs.declared.postcopy.PostcopyState.TheVariants.{Inactive}
 use Rattle.vhost_message.specs.declared.records.config.VhostUserConfig.{VhostUserConfig}
@@ -60,7 +60,7 @@ pub data FrontendCall (H : Type 0) : Type 0 where
   PostcopyAdvise : FrontendCall H
   PostcopyListen : FrontendCall H
   PostcopyEnd : FrontendCall H
-  PostcopyAckMemRegions : FrontendReq → FrontendCall H
+  PostcopyAckMemRegions : HeardReq → FrontendCall H
   SetMtu : (mtu : ℕ) → FrontendCall H
   SetHdrFlags : (flags : ℕ) → FrontendCall H
 

@@ -1,7 +1,7 @@
 -- The handler of a frontend's requests, over a device.
 use Rattle.std.specs.Prelude.{◌≡◌, List, Result, Err, ⊤}
-use Rattle.vhost_message.specs.declared.frontend_req.FrontendReq.{FrontendReq}
-use Rattle.vhost_message.specs.FrontendReq.{request_number}
+use Rattle.vhost_message.specs.declared.heard_req.HeardReq.{HeardReq}
+use Rattle.vhost_message.specs.HeardReq.{request_number}
 use Rattle.vhost_protocol.specs.Codes.{allows_handles}
 use Rattle.vhost_protocol.specs.DeviceCall.{Call, Answer}
 use Rattle.vhost_protocol.specs.Error.{Error}
@@ -25,11 +25,11 @@ module _ {H B G Dev : Type 0} (gives : Dev → (c : Call H B G) → Answer c →
   Follows s d (OpensGpu h next) o d' = (opened : Result G Error) × opens_gpu h opened × Follows s d (next opened) o d'
 
   -- the row of a message, and what becomes of its silence
-  abbrev pub Meets : Session → Dev → Message FrontendReq H → Outcome H → Dev → Type 0
+  abbrev pub Meets : Session → Dev → Message HeardReq H → Outcome H → Dev → Type 0
   Meets s d m o d' = (told : Outcome H) × Follows s d (row s m) told d' × (o ≡ settled s m told)
 
   -- the same by its parts, with the text of what is written
-  abbrev pub MeetsRow : Session → Dev → Message FrontendReq H → Result ⊤ Error → List (Cell H) → Session → Dev → Type 0
+  abbrev pub MeetsRow : Session → Dev → Message HeardReq H → Result ⊤ Error → List (Cell H) → Session → Dev → Type 0
   MeetsRow s d m answer written s' d' = (o : Outcome H) × Meets s d m o d'
       × (answer ≡ o.answer) × (written ≡ cells_of request_number (reply m.request o.served)) × (s' ≡ o.session)
 

@@ -2,8 +2,8 @@
 use Rattle.std.specs.Prelude.{◌≡◌, ◌^◌, ◌<◌, ◌≤◌, true, false, [], length, All, IfOk, IfSome, Some, Result, ⊤}
 use Rattle.vhost_message.specs.declared.limits.TheConstants.{MAX_ATTACHED_FD_ENTRIES, MAX_MSG_SIZE}
 use Rattle.vhost_message.specs.Bits.{has_bit}
-use Rattle.vhost_message.specs.declared.frontend_req.FrontendReq.{FrontendReq}
-use Rattle.vhost_message.specs.FrontendReq.{request_number, is_named}
+use Rattle.vhost_message.specs.declared.heard_req.HeardReq.{HeardReq}
+use Rattle.vhost_message.specs.HeardReq.{request_number, is_named}
 use Rattle.vhost_message.specs.LongRecords.{ShMemConfigFits}
 use Rattle.vhost_message.specs.RecordLaws.{RegionFits, VringStateFits, InflightFits, LogFits}
 use Rattle.vhost_protocol.specs.Ask.{Asked, Refuses, Answers, Sends, ask, regions_in, log_area}
@@ -102,14 +102,14 @@ AwaitsItsShape H = (f : Frontend) (call : FrontendCall H) → AsksPlainly f call
 
 -- What the handler served, and nothing behind it: from these bytes the frontend takes the answer of the answer table, and leaves none.
 abbrev pub HearsTheAnswer : (H : Type 0) → Type 0
-HearsTheAnswer H = (call : FrontendCall H) (awaited : Awaited) (w : Written FrontendReq H) (g : Frontend) (served : Served H) (a : Answered H)
+HearsTheAnswer H = (call : FrontendCall H) (awaited : Awaited) (w : Written HeardReq H) (g : Frontend) (served : Served H) (a : Answered H)
     → is_named w.request ≡ true → w.reply ≡ false → IsAwaitedBy call awaited → IsGoodReply call served → answer call awaited g served ≡ Some a
     → take call awaited (head_of request_number w) g (cells_of request_number (reply w.request served)) ≡ (Some a, [])
 
 -- ---- what is sent can be sent
 
 -- the request has a name, its handles are allowed and not too many, and the body is not too long
-pub record IsSendable {H : Type 0} (w : Written FrontendReq H) : Type 0 where
+pub record IsSendable {H : Type 0} (w : Written HeardReq H) : Type 0 where
   pub named : is_named w.request ≡ true
   pub allowed : allows_handles w.request (length w.handles) ≡ true
   pub size : length (payload_text w.payload) ≤ MAX_MSG_SIZE

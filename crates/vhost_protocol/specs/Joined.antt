@@ -1,8 +1,8 @@
 -- Frontend and handler joined: each call's message, its row and the answer; in step, and the last step.
 use Rattle.std.specs.Prelude.{◌≡◌, Bool, true, false, ◌&&◌, ◌||◌, List, [], ◌∷◌, Option, Some, None, Result, Ok, Err, is_err, is_some, bit_and, if◌then◌else◌, ⊤}
-use Rattle.vhost_message.specs.declared.frontend_req.FrontendReq.{FrontendReq}
-use Rattle.vhost_message.specs.declared.frontend_req.FrontendReq.TheVariants.{POSTCOPY_END}
-use Rattle.vhost_message.specs.FrontendReq.{request_number}
+use Rattle.vhost_message.specs.declared.heard_req.HeardReq.{HeardReq}
+use Rattle.vhost_message.specs.declared.heard_req.HeardReq.TheVariants.{POSTCOPY_END}
+use Rattle.vhost_message.specs.HeardReq.{request_number}
 use Rattle.vhost_protocol.specs.AnswerTable.{answer}
 use Rattle.vhost_protocol.specs.Ask.{Asked, Refuses, Answers, Sends, ask}
 use Rattle.vhost_protocol.specs.declared.asked.Awaited.{Awaited}
@@ -36,7 +36,7 @@ pub record InStep {H : Type 0} (f : Frontend) (s : Session) (awaited : Awaited) 
   pub no_reply : to_frontend ≡ []
 
 -- the request that ends postcopy
-abbrev pub is_end : FrontendReq → Bool
+abbrev pub is_end : HeardReq → Bool
 is_end POSTCOPY_END = true
 is_end _ = false
 
@@ -46,11 +46,11 @@ is_silent Silent = true
 is_silent _ = false
 
 -- the last step of the table: an error in silence, or a refused end of postcopy
-abbrev pub is_last : {H : Type 0} → FrontendReq → Outcome H → Bool
+abbrev pub is_last : {H : Type 0} → HeardReq → Outcome H → Bool
 is_last r o = is_err o.answer && (is_silent o.served || is_end r)
 
 -- A run stops where the table has its last step. Under Standard whoever waits is answered, and it stops only where the session has ended.
-abbrev pub stops : {H : Type 0} → Profile → FrontendReq → Outcome H → Bool
+abbrev pub stops : {H : Type 0} → Profile → HeardReq → Outcome H → Bool
 stops profile r o = if is_standard profile then is_some o.session.failed else is_last r o
 
 -- a message as its receiver reads it

@@ -2,10 +2,10 @@
 use Rattle.std.specs.Prelude.{◌≡◌, ℕ, ◌+◌, ◌^◌, ◌<◌, ◌≤◌, ◌⊎◌, Bool, true, false, List, [], ◌∷◌, ◌++◌, length, All, Option, Some, Result, Ok, ⊤}
 use Rattle.vhost_message.specs.declared.limits.TheConstants.{MAX_MEM_REGIONS, MAX_MSG_SIZE, MSG_HEADER_SIZE}
 use Rattle.vhost_message.specs.Bits.{has_bit}
-use Rattle.vhost_message.specs.declared.frontend_req.FrontendReq.{FrontendReq}
+use Rattle.vhost_message.specs.declared.heard_req.HeardReq.{HeardReq}
 use Rattle.vhost_message.specs.declared.records.config.VhostUserConfig.{VhostUserConfig}
 use Rattle.vhost_message.specs.declared.records.memory.VhostUserMemoryRegion.{VhostUserMemoryRegion}
-use Rattle.vhost_message.specs.FrontendReq.{request_number, is_named}
+use Rattle.vhost_message.specs.HeardReq.{request_number, is_named}
 use Rattle.vhost_message.specs.Header.{Header}
 use Rattle.vhost_message.specs.LongRecords.{ShMemConfigFits}
 use Rattle.vhost_message.specs.RecordLaws.{RegionFits, SingleRegionFits, VringStateFits, ConfigFits, InflightFits, LogFits}
@@ -71,27 +71,27 @@ IsShort (GetConfig offset size flags buffer) = ⊥
 IsShort _ = ⊤
 
 -- a header that was sent for a request which has a name, without REPLY
-abbrev pub IsSentFor : FrontendReq → Header → Type 0
+abbrev pub IsSentFor : HeardReq → Header → Type 0
 IsSentFor r sent = (sent.code ≡ request_number r) × (has_bit sent.flags 2 ≡ false) × (is_named r ≡ true)
 
 -- what a handler served is taken from the stream as the answer table says, and what follows it is left
-abbrev pub IsTaken : {H : Type 0} → FrontendCall H → Awaited → Header → Frontend → FrontendReq → Served H → Type 0
+abbrev pub IsTaken : {H : Type 0} → FrontendCall H → Awaited → Header → Frontend → HeardReq → Served H → Type 0
 IsTaken {H} call awaited sent f r served =
     (rest : List (Cell H)) → take call awaited sent f (cells_of request_number (reply r served) ++ rest) ≡ (answer call awaited f served, rest)
 
 -- an acknowledgement is taken
 abbrev pub TakesAck : (H : Type 0) → Type 0
-TakesAck H = (call : FrontendCall H) (sent : Header) (f : Frontend) (r : FrontendReq) → IsSentFor r sent
+TakesAck H = (call : FrontendCall H) (sent : Header) (f : Frontend) (r : HeardReq) → IsSentFor r sent
     → (agreed : Bool) → IsTaken call Ack sent f r (Acknowledged agreed)
 
 -- a reply of one number is taken
 abbrev pub TakesNumber : (H : Type 0) → Type 0
-TakesNumber H = (call : FrontendCall H) (sent : Header) (f : Frontend) (r : FrontendReq) → IsShort call → IsSentFor r sent
+TakesNumber H = (call : FrontendCall H) (sent : Header) (f : Frontend) (r : HeardReq) → IsShort call → IsSentFor r sent
     → (n : ℕ) (handles : List H) → n < 2 ^ 64 → IsTaken call (Reply shape.U64) sent f r (Replied (U64 n) handles)
 
 -- a reply without a body is taken
 abbrev pub TakesEmpty : (H : Type 0) → Type 0
-TakesEmpty H = (call : FrontendCall H) (sent : Header) (f : Frontend) (r : FrontendReq) → IsShort call → IsSentFor r sent
+TakesEmpty H = (call : FrontendCall H) (sent : Header) (f : Frontend) (r : HeardReq) → IsShort call → IsSentFor r sent
     → (handles : List H) → IsTaken call (Reply shape.Empty) sent f r (Replied Empty handles)
 
 -- the numbers of a payload are within their fields
@@ -138,7 +138,7 @@ IsReplyOf call _ _ handles = ⊥
 
 -- a reply that the call may have is taken
 abbrev pub TakesReply : (H : Type 0) → Type 0
-TakesReply H = (call : FrontendCall H) (sent : Header) (f : Frontend) (r : FrontendReq) (shape : Shape) → IsSentFor r sent
+TakesReply H = (call : FrontendCall H) (sent : Header) (f : Frontend) (r : HeardReq) (shape : Shape) → IsSentFor r sent
     → (payload : Payload) (handles : List H) → IsReplyOf call shape payload handles → PayloadFits payload → IsTaken call (Reply shape) sent f r (Replied payload handles)
 
 -- from a stream at its end nothing is taken: the answer is that of a silent handler

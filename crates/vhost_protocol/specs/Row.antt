@@ -4,9 +4,9 @@ use Rattle.std.specs.Prelude.{ℕ, ◌+◌, ◌*◌, ◌%◌, ◌^◌, Bool, tru
 use Rattle.std.specs.List.{list_all}
 use Rattle.vhost_message.specs.declared.limits.TheConstants.{MEMORY_HEAD_SIZE, MEMORY_REGION_SIZE}
 use Rattle.vhost_message.specs.Bits.{has_bit}
-use Rattle.vhost_message.specs.declared.frontend_req.FrontendReq.{FrontendReq}
-use Rattle.vhost_message.specs.declared.frontend_req.FrontendReq.TheVariants.{GET_FEATURES, SET_FEATURES, SET_OWNER, RESET_OWNER, SET_MEM_TABLE, SET_LOG_BASE, SET_VRING_NUM, SET_VRING_ADDR, SET_VRING_BASE, GET_VRING_BASE, SET_VRING_KICK, SET_VRING_CALL, SET_VRING_ERR, GET_PROTOCOL_FEATURES, SET_PROTOCOL_FEATURES, GET_QUEUE_NUM, SET_VRING_ENABLE, NET_SET_MTU, SET_BACKEND_REQ_FD, GET_CONFIG, SET_CONFIG, POSTCOPY_ADVISE, POSTCOPY_LISTEN, POSTCOPY_END, GET_INFLIGHT_FD, SET_INFLIGHT_FD, GPU_SET_SOCKET, RESET_DEVICE, GET_MAX_MEM_SLOTS, ADD_MEM_REG, REM_MEM_REG, GET_SHARED_OBJECT, SET_DEVICE_STATE_FD, CHECK_DEVICE_STATE, GET_SHMEM_CONFIG}
-use Rattle.vhost_message.specs.FrontendReq.{request_number}
+use Rattle.vhost_message.specs.declared.heard_req.HeardReq.{HeardReq}
+use Rattle.vhost_message.specs.declared.heard_req.HeardReq.TheVariants.{GET_FEATURES, SET_FEATURES, SET_OWNER, RESET_OWNER, SET_MEM_TABLE, SET_LOG_BASE, SET_VRING_NUM, SET_VRING_ADDR, SET_VRING_BASE, GET_VRING_BASE, SET_VRING_KICK, SET_VRING_CALL, SET_VRING_ERR, GET_PROTOCOL_FEATURES, SET_PROTOCOL_FEATURES, GET_QUEUE_NUM, SET_VRING_ENABLE, NET_SET_MTU, SET_BACKEND_REQ_FD, GET_CONFIG, SET_CONFIG, POSTCOPY_ADVISE, POSTCOPY_LISTEN, POSTCOPY_END, GET_INFLIGHT_FD, SET_INFLIGHT_FD, GPU_SET_SOCKET, RESET_DEVICE, GET_MAX_MEM_SLOTS, ADD_MEM_REG, REM_MEM_REG, GET_SHARED_OBJECT, SET_DEVICE_STATE_FD, CHECK_DEVICE_STATE, GET_SHMEM_CONFIG}
+use Rattle.vhost_message.specs.HeardReq.{request_number}
 use Rattle.vhost_message.specs.declared.records.memory.VhostUserMemoryRegion.{VhostUserMemoryRegion}
 use Rattle.vhost_message.specs.declared.records.shared.VhostUserSharedMsg.{VhostUserSharedMsg}
 use Rattle.vhost_message.specs.Records.{u64_at, memory_of, regions_of, single_region_of, vring_state_of, vring_addr_of, config_of, inflight_of, log_of, transfer_of}
@@ -28,11 +28,11 @@ abbrev pub is_bare : {R H : Type 0} → ℕ → Message R H → Bool
 is_bare size m = length m.body == size && not m.reply
 
 -- that, or the message is invalid
-abbrev pub bare : {H : Type 0} → ℕ → Message FrontendReq H → Result ⊤ (Refusal H)
+abbrev pub bare : {H : Type 0} → ℕ → Message HeardReq H → Result ⊤ (Refusal H)
 bare size m = test (is_bare size m) (silently InvalidMessage)
 
 -- the body is one valid record
-abbrev pub body : {H A : Type 0} → ℕ → (List ℕ → A) → (A → Bool) → Message FrontendReq H → Result A (Refusal H)
+abbrev pub body : {H A : Type 0} → ℕ → (List ℕ → A) → (A → Bool) → Message HeardReq H → Result A (Refusal H)
 body size of is_valid m = if is_bare size m && is_valid (of m.body) then Ok (of m.body) else Err (silently InvalidMessage)
 
 -- every value is valid
@@ -40,7 +40,7 @@ abbrev pub always : {A : Type 0} → A → Bool
 always a = true
 
 -- the body is one number
-abbrev pub u64 : {H : Type 0} → Message FrontendReq H → Result ℕ (Refusal H)
+abbrev pub u64 : {H : Type 0} → Message HeardReq H → Result ℕ (Refusal H)
 u64 m = body 8 (u64_at 0) always m
 
 -- a protocol feature is acknowledged
@@ -53,11 +53,11 @@ only e (a ∷ []) = Ok a
 only e _ = Err e
 
 -- exactly one handle
-abbrev pub one_handle : {H : Type 0} → Message FrontendReq H → Refusal H → Result H (Refusal H)
+abbrev pub one_handle : {H : Type 0} → Message HeardReq H → Refusal H → Result H (Refusal H)
 one_handle m refusal = only refusal m.handles
 
 -- while listening, a body of eight bytes says that the regions are mapped ("Postcopy")
-abbrev pub is_mapped : {H : Type 0} → Session → Message FrontendReq H → Bool
+abbrev pub is_mapped : {H : Type 0} → Session → Message HeardReq H → Bool
 is_mapped s m = is_listen s.postcopy && length m.body == 8
 
 -- the name of a shared object
@@ -71,7 +71,7 @@ is_valid_name name = is_valid_uuid name.uuid
 -- ---- the ring's handle
 
 -- Bit 8 of the number says that there is no handle. Bits above it are ignored.
-abbrev pub ring_row : {H B G : Type 0} → Message FrontendReq H → (ℕ → Option H → Step H B G) → Step H B G
+abbrev pub ring_row : {H B G : Type 0} → Message HeardReq H → (ℕ → Option H → Step H B G) → Step H B G
 ring_row m call = do
   n ← u64 m
   (if has_bit n 8
@@ -90,7 +90,7 @@ is_table_size s n size =
     if is_standard s.profile then nat_le (MEMORY_HEAD_SIZE + MEMORY_REGION_SIZE * n) size else size == MEMORY_HEAD_SIZE + MEMORY_REGION_SIZE * n
 
 -- a table of as many regions and handles as it says, each region valid ("Multiple Memory regions description")
-abbrev pub is_valid_table : {H : Type 0} → Session → Message FrontendReq H → Bool
+abbrev pub is_valid_table : {H : Type 0} → Session → Message HeardReq H → Bool
 is_valid_table s m =
     let n = (memory_of m.body).num_regions in
     not m.reply && nat_le MEMORY_HEAD_SIZE (length m.body) && is_valid_memory (memory_of m.body)
@@ -98,20 +98,20 @@ is_valid_table s m =
     && length m.handles == n && list_all is_valid_region (regions_of n (drop MEMORY_HEAD_SIZE m.body))
 
 -- the regions of a table
-abbrev pub table : {H : Type 0} → Message FrontendReq H → List VhostUserMemoryRegion
+abbrev pub table : {H : Type 0} → Message HeardReq H → List VhostUserMemoryRegion
 table m = regions_of (memory_of m.body).num_regions (drop MEMORY_HEAD_SIZE m.body)
 
 -- ---- rows of more than one case
 
 -- while listening: the frontend says that it has mapped the regions; the answer stays unwritten
-abbrev pub mapped_row : {H B G : Type 0} → Session → Message FrontendReq H → Step H B G
+abbrev pub mapped_row : {H B G : Type 0} → Session → Message HeardReq H → Step H B G
 mapped_row s m = do
   n ← u64 m
   test (n == 0) (silently FrontendInternalError)
   calls s m PostcopyAckMemRegions
 
 -- a table of regions, which are to be mapped while listening
-abbrev pub table_row : {H B G : Type 0} → Session → Message FrontendReq H → Step H B G
+abbrev pub table_row : {H B G : Type 0} → Session → Message HeardReq H → Step H B G
 table_row s m = do
   test (is_valid_table s m) (acknowledged s m InvalidMessage)
   (if is_listen s.postcopy
@@ -119,7 +119,7 @@ table_row s m = do
       else calls s m (SetMemTable (table m) m.handles (Some false)))
 
 -- one region, which is to be mapped while listening
-abbrev pub region_row : {H B G : Type 0} → Session → Message FrontendReq H → Step H B G
+abbrev pub region_row : {H B G : Type 0} → Session → Message HeardReq H → Step H B G
 region_row s m = do
   h ← one_handle m (silently InvalidParam)
   r ← body 40 single_region_of always m
@@ -128,16 +128,16 @@ region_row s m = do
       else calls s m (AddMemRegion r h (Some false)))
 
 -- a valid record with as many bytes behind it as it says
-abbrev pub is_valid_area : {H : Type 0} → Message FrontendReq H → Bool
+abbrev pub is_valid_area : {H : Type 0} → Message HeardReq H → Bool
 is_valid_area m = nat_le 12 (length m.body) && is_valid_config (config_of m.body) && length m.body == 12 + (config_of m.body).size
 
 -- the channel that a handle opened, else its error is acknowledged
-abbrev pub channel : {H C : Type 0} → Session → Message FrontendReq H → Result C Error → Result C (Refusal H)
+abbrev pub channel : {H C : Type 0} → Session → Message HeardReq H → Result C Error → Result C (Refusal H)
 channel s m (Ok c) = Ok c
 channel s m (Err e) = Err (acknowledged s m e)
 
 -- A request that has no row of its own. Under Standard the device is given it whole, and says whether it is served.
-abbrev pub other_row : {H B G : Type 0} → Session → Message FrontendReq H → Step H B G
+abbrev pub other_row : {H B G : Type 0} → Session → Message HeardReq H → Step H B G
 other_row s m = do
   test (is_standard s.profile && not m.reply) (silently InvalidMessage)
   calls s m (Other (request_number m.request) m.body m.handles)
@@ -145,7 +145,7 @@ other_row s m = do
 -- ---- the table
 
 -- the row of each request
-abbrev pub row_of : {H B G : Type 0} → FrontendReq → Session → Message FrontendReq H → Step H B G
+abbrev pub row_of : {H B G : Type 0} → HeardReq → Session → Message HeardReq H → Step H B G
 row_of SET_OWNER s m = do
   bare 0 m
   calls s m SetOwner
@@ -272,5 +272,5 @@ row_of POSTCOPY_END s m = do
 row_of _ s m = other_row s m
 
 -- the row of a message
-abbrev pub row : {H B G : Type 0} → Session → Message FrontendReq H → Step H B G
+abbrev pub row : {H B G : Type 0} → Session → Message HeardReq H → Step H B G
 row s m = row_of m.request s m

@@ -2,8 +2,8 @@
 use Rattle.std.specs.Prelude.{ℕ, ℤ, Bool, true, false, ◌&&◌, Option, None, if◌then◌else◌, bit_or}
 use Rattle.vhost_message.specs.Bits.{has_bit}
 use Rattle.vhost_message.specs.Codes.{heard_by}
-use Rattle.vhost_message.specs.declared.frontend_req.FrontendReq.{FrontendReq}
-use Rattle.vhost_message.specs.FrontendReq.{request_of, any_request}
+use Rattle.vhost_message.specs.declared.heard_req.HeardReq.{HeardReq}
+use Rattle.vhost_message.specs.HeardReq.{request_of, any_request}
 use Rattle.vhost_message.specs.declared.postcopy.PostcopyState.{PostcopyState}
 use Rattle.vhost_message.specs.declared.postcopy.PostcopyState.TheVariants.{Inactive, Advise, Listen}
 use Rattle.vhost_protocol.specs.declared.profile.Profile.{Profile}
@@ -48,5 +48,5 @@ abbrev pub enabling : Session → ℕ
 enabling s = if is_standard s.profile then bit_or s.offered s.acked else s.acked
 
 -- the requests that a handler hears, by their numbers: under Standard any number is one, and those without a name are served by nobody
-abbrev pub heard_in : Session → ℕ → Option FrontendReq
+abbrev pub heard_in : Session → ℕ → Option HeardReq
 heard_in s = heard_by request_of any_request (is_standard s.profile)

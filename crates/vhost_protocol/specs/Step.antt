@@ -1,6 +1,6 @@
 -- A step of a handler: a refusal, or a call of the device and what follows from its answer.
 use Rattle.std.specs.Prelude.{Bool, false, ◌&&◌, List, [], Result, Ok, Err, is_ok, if◌then◌else◌, ⊤}
-use Rattle.vhost_message.specs.declared.frontend_req.FrontendReq.{FrontendReq}
+use Rattle.vhost_message.specs.declared.heard_req.HeardReq.{HeardReq}
 use Rattle.vhost_protocol.specs.DeviceCall.{Call, Answer}
 use Rattle.vhost_protocol.specs.Error.{Error}
 use Rattle.vhost_protocol.specs.Served.{Served, Silent, Acknowledged, Replied}
@@ -40,7 +40,7 @@ abbrev pub ◌>>◌ : {H B G : Type 0} → Result ⊤ (Refusal H) → Step H B G
 (Err refusal) >> next = Refused refusal
 
 -- an acknowledgement, where acknowledgements are on and the message wants one
-abbrev pub ack_back : {H : Type 0} → Session → Message FrontendReq H → Bool → Served H
+abbrev pub ack_back : {H : Type 0} → Session → Message HeardReq H → Bool → Served H
 ack_back s m agreed = if ack_on s && m.need_reply then Acknowledged agreed else Silent
 
 -- the error, with nothing written
@@ -48,7 +48,7 @@ abbrev pub silently : {H : Type 0} → Error → Refusal H
 silently e = record { error = e; served = Silent }
 
 -- the error, acknowledged
-abbrev pub acknowledged : {H : Type 0} → Session → Message FrontendReq H → Error → Refusal H
+abbrev pub acknowledged : {H : Type 0} → Session → Message HeardReq H → Error → Refusal H
 acknowledged s m e = record { error = e; served = ack_back s m false }
 
 -- the answer without its value
@@ -59,11 +59,11 @@ done (Err e) = Err e
 -- ---- what follows from a device's answer
 
 -- the answer is acknowledged
-abbrev pub with_ack : {H A : Type 0} → Session → Message FrontendReq H → Result A Error → Outcome H
+abbrev pub with_ack : {H A : Type 0} → Session → Message HeardReq H → Result A Error → Outcome H
 with_ack s m answer = record { answer = done answer; served = ack_back s m (is_ok answer); session = s }
 
 -- an error in the place of the answer, acknowledged
-abbrev pub failed_with : {H : Type 0} → Session → Message FrontendReq H → Error → Outcome H
+abbrev pub failed_with : {H : Type 0} → Session → Message HeardReq H → Error → Outcome H
 failed_with s m e = record { answer = Err e; served = ack_back s m false; session = s }
 
 -- success, with a reply

@@ -2,7 +2,7 @@
 use Rattle.std.specs.Prelude.{ℕ, ◌+◌, ◌*◌, ◌/◌, Bool, true, ◌&&◌, List, [], ◌∷◌, length, Option, Some, None, Result, Ok, Err, is_some, if◌then◌else◌, ◌==◌}
 use Rattle.vhost_message.specs.declared.limits.TheConstants.{MEMORY_HEAD_SIZE, MEMORY_REGION_SIZE}
 use Rattle.vhost_message.specs.Bits.{has_bit}
-use Rattle.vhost_message.specs.FrontendReq.{request_of}
+use Rattle.vhost_message.specs.HeardReq.{request_of}
 use Rattle.vhost_message.specs.Header.{Header, is_reply_for}
 use Rattle.vhost_message.specs.Records.{u64_at, memory_of, regions_of, single_region_of, shmem_config_of, vring_state_of, config_of, inflight_of, log_of}
 use Rattle.vhost_message.specs.Valid.{is_valid_memory, is_valid_config, is_valid_inflight, is_valid_log}

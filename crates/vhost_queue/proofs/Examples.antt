@@ -8,7 +8,7 @@ use Rattle.vhost_queue.specs.PackedInflight.{free_in, holding, places}
 use Rattle.vhost_queue.specs.Segment.{table_entries}
 use Rattle.vhost_queue.specs.Wrap.{advanced, is_available, position_of, number_of}
 use Rattle.vhost_queue.specs.declared.descriptor.Descriptor.{Descriptor}
-use Rattle.vhost_queue.specs.declared.error.Error.TheVariants.{NotInGuest, DescriptorLoop, NotInTable, ChainTooLong, ReadableAfterWritable, UnexpectedIndirect, InvalidIndirectLength, InvalidInflight}
+use Rattle.vhost_queue.specs.declared.error.Error.TheVariants.{NotInGuest, NotInTable, ChainTooLong, ReadableAfterWritable, UnexpectedIndirect, InvalidIndirectLength, InvalidInflight}
 use Rattle.vhost_queue.specs.declared.inflight.InflightEntry.{InflightEntry}
 use Rattle.vhost_queue.specs.declared.memory.AddressSpace.TheVariants.{Guest, User}
 use Rattle.vhost_queue.specs.declared.memory.GuestRegion.{GuestRegion}
@@ -39,14 +39,14 @@ behind_last = refl
 
 -- a chain of a queue of four, at its head: a readable segment, which goes on at 1
 abbrev head : Following
-head = record { table = 0x20000000; seen = false ∷ false ∷ false ∷ false ∷ []; next = Some 0; rest = None; left = 4; splits = 508; writing = false; nests = false }
+head = record { table = 0x20000000; entries = 4; next = Some 0; rest = None; left = 4; splits = 508; writing = false; nests = false }
 
 abbrev first : Descriptor
 first = record { addr = 0x100010; len = 16; flags = 1; next = 1 }
 
 goes_on_at : step regions head first ≡ Ok (
   Some (record { range = record { addr = 0x20000010; len = 16 }; guest_addr = 0x100010; writable = false }),
-  record head { seen = true ∷ false ∷ false ∷ false ∷ []; next = Some 1; left = 3 },
+  record head { next = Some 1; left = 3 },
 )
 goes_on_at = refl
 
@@ -65,7 +65,7 @@ at_a_border = refl
 
 behind_the_border : step (high ∷ above ∷ []) (record head { rest = Some rest; splits = 507 }) (record first { flags = 4; next = 9 }) ≡ Ok (
   Some (record { range = record { addr = 0x40000000; len = 8 }; guest_addr = 0x101000; writable = false }),
-  record head { seen = true ∷ false ∷ false ∷ false ∷ []; next = Some 1; left = 3; splits = 507 },
+  record head { next = Some 1; left = 3; splits = 507 },
 )
 behind_the_border = refl
 
@@ -74,12 +74,9 @@ no_region_goes_on = refl
 
 -- .. and behind the first one that goes back, one that leaves the table, and an indirect table that was not negotiated
 abbrev second : Following
-second = record head { seen = true ∷ false ∷ false ∷ false ∷ []; next = Some 1; left = 3 }
+second = record head { next = Some 1; left = 3 }
 
-loop_of_two : step regions second (record first { next = 0 }) ≡ Err DescriptorLoop
-loop_of_two = refl
-
-loop_of_one : step regions second first ≡ Err DescriptorLoop
+loop_of_one : step regions (record second { left = 1 }) first ≡ Err ChainTooLong
 loop_of_one = refl
 
 next_past_the_table : step regions second (record first { next = 4 }) ≡ Err NotInTable

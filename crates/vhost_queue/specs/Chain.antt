@@ -3,7 +3,7 @@ use Rattle.std.specs.Prelude.{◌≡◌, ◌≤◌, ℕ, ◌+◌, ◌-◌, ◌*�
 use Rattle.vhost_queue.specs.Memory.{translated, LiesIn}
 use Rattle.vhost_queue.specs.Segment.{goes_on, is_writable, is_indirect, segment_of, table_entries}
 use Rattle.vhost_queue.specs.declared.error.Error.{Error}
-use Rattle.vhost_queue.specs.declared.error.Error.TheVariants.{NotInTable, DescriptorLoop, ChainTooLong, UnexpectedIndirect, IndirectGoesOn, ChainEnded}
+use Rattle.vhost_queue.specs.declared.error.Error.TheVariants.{NotInTable, ChainTooLong, UnexpectedIndirect, IndirectGoesOn, ChainEnded}
 use Rattle.vhost_queue.specs.declared.chain.DescriptorChain.{DescriptorChain}
 use Rattle.vhost_queue.specs.declared.descriptor.Descriptor.{Descriptor}
 use Rattle.vhost_queue.specs.declared.descriptor.Segment.{Segment}
@@ -11,12 +11,12 @@ use Rattle.vhost_queue.specs.declared.memory.AddressSpace.TheVariants.{Guest}
 use Rattle.vhost_queue.specs.declared.memory.GuestRegion.{GuestRegion}
 use Rattle.vhost_queue.specs.declared.memory.HostRange.{HostRange}
 
--- A chain between two segments: where its table is mapped, which of the table's descriptors were followed, which is next if
--- there is one, what of that is left where its first bytes came already, how many descriptors may come yet, how many times one may
--- go on in another region, whether a writable segment came, and whether an indirect table may come.
+-- A chain between two segments: where its table is mapped and how many descriptors that has, which is next if there is one, what of that
+-- is left where its first bytes came already, how many descriptors may come yet, how many times one may go on in another region,
+-- whether a writable segment came, and whether an indirect table may come.
 pub record Following : Type 0 where
   pub table : ℕ
-  pub seen : List Bool
+  pub entries : ℕ
   pub next : Option ℕ
   pub rest : Option Descriptor
   pub left : ℕ
@@ -25,7 +25,7 @@ pub record Following : Type 0 where
   pub nests : Bool
 
 abbrev pub following : DescriptorChain → Following
-following c = record { table = c.table; seen = take c.entries c.seen.items; next = c.next; rest = c.rest; left = c.left; splits = c.splits; writing = c.writing; nests = c.nests }
+following c = record { table = c.table; entries = c.entries; next = c.next; rest = c.rest; left = c.left; splits = c.splits; writing = c.writing; nests = c.nests }
 
 -- how many descriptors with bytes a chain has at most
 abbrev pub limit_of : DescriptorChain → ℕ
@@ -39,29 +39,28 @@ segment_limit size nests = if nests then max size 1024 else size
 -- regions.
 abbrev pub begun : ℕ → ℕ → ℕ → Bool → ℕ → Result Following Error
 begun table size limit nests head =
-    if nat_lt head size then Ok (record { table = table; seen = replicate size false; next = Some head; rest = None; left = limit; splits = 508; writing = false; nests = nests })
+    if nat_lt head size then Ok (record { table = table; entries = size; next = Some head; rest = None; left = limit; splits = 508; writing = false; nests = nests })
     else Err NotInTable
 
 -- the 16 bytes of the descriptor that is next; none of them where its first bytes came already
 abbrev pub place_of : Following → Option HostRange
 place_of f = option_map (λ i. record { addr = f.table + 16 * i; len = if is_some f.rest then 0 else 16 }) f.next
 
--- which descriptor comes behind the i-th, whose value is d: one of the table that was not followed, where one more may come
-abbrev pub next_of : Following → ℕ → Descriptor → Result (Option ℕ) Error
-next_of f i d =
+-- which descriptor comes behind one of this value: one of the table, where one more may come
+abbrev pub next_of : Following → Descriptor → Result (Option ℕ) Error
+next_of f d =
     if not (goes_on d.flags) then Ok None
-    else if not (nat_lt d.next (length f.seen)) then Err NotInTable
-    else if (d.next == i) || slice_index_or f.seen d.next false then Err DescriptorLoop
+    else if not (nat_lt d.next f.entries) then Err NotInTable
     else if f.left == 1 then Err ChainTooLong
     else Ok (Some d.next)
 
--- the chain behind its i-th descriptor
-abbrev pub behind : Following → ℕ → Descriptor → Result (Option ℕ) Error → Result Following Error
-behind f i d (Ok next) = Ok (record f { seen = slice_set f.seen i true; next = next; rest = None; left = f.left - 1; writing = is_writable d.flags })
-behind f i d (Err e) = Err e
+-- the chain behind its next descriptor
+abbrev pub behind : Following → Descriptor → Result (Option ℕ) Error → Result Following Error
+behind f d (Ok next) = Ok (record f { next = next; rest = None; left = f.left - 1; writing = is_writable d.flags })
+behind f d (Err e) = Err e
 
-abbrev pub after : Following → ℕ → Descriptor → Result Following Error
-after f i d = behind f i d (next_of f i d)
+abbrev pub after : Following → Descriptor → Result Following Error
+after f d = behind f d (next_of f d)
 
 -- a segment, and the chain behind it
 abbrev pub with_segment : Segment → Result Following Error → Result (Option Segment × Following) Error
@@ -78,17 +77,17 @@ split f d n =
     if f.splits == 0 then Err ChainTooLong
     else Ok (record f { rest = Some (rest_of d n); splits = f.splits - 1; writing = is_writable d.flags })
 
--- the chain behind n bytes of its i-th descriptor
-abbrev pub gone_on : Following → ℕ → Descriptor → ℕ → Result Following Error
-gone_on f i d n = if nat_lt n d.len then split f d n else after f i d
+-- the chain behind n bytes of its next descriptor
+abbrev pub gone_on : Following → Descriptor → ℕ → Result Following Error
+gone_on f d n = if nat_lt n d.len then split f d n else after f d
 
-abbrev pub followed : Following → ℕ → Descriptor → Result Segment Error → Result (Option Segment × Following) Error
-followed f i d (Ok s) = with_segment s (gone_on f i d s.range.len)
-followed f i d (Err e) = Err e
+abbrev pub followed : Following → Descriptor → Result Segment Error → Result (Option Segment × Following) Error
+followed f d (Ok s) = with_segment s (gone_on f d s.range.len)
+followed f d (Err e) = Err e
 
 -- the chain goes on at the first of n descriptors that are mapped there
 abbrev pub entered : Following → ℕ → Result HostRange Error → Result (Option Segment × Following) Error
-entered f n (Ok range) = Ok (None, record f { table = range.addr; seen = replicate n false; next = Some 0; rest = None; nests = false })
+entered f n (Ok range) = Ok (None, record f { table = range.addr; entries = n; next = Some 0; rest = None; nests = false })
 entered f n (Err e) = Err e
 
 abbrev pub entering : List GuestRegion → Following → Descriptor → Result ℕ Error → Result (Option Segment × Following) Error
@@ -102,14 +101,14 @@ nested rs f d =
     else if goes_on d.flags then Err IndirectGoesOn
     else entering rs f d (table_entries d.len f.left)
 
--- what the value of the i-th descriptor makes of a chain
-abbrev pub step_at : List GuestRegion → Following → ℕ → Descriptor → Result (Option Segment × Following) Error
-step_at rs f i d =
+-- what the value of the next descriptor makes of a chain that goes on
+abbrev pub step_at : List GuestRegion → Following → Descriptor → Result (Option Segment × Following) Error
+step_at rs f d =
     if is_indirect d.flags then nested rs f d
-    else followed f i d (segment_of rs f.writing d.addr d.len d.flags)
+    else followed f d (segment_of rs f.writing d.addr d.len d.flags)
 
 abbrev pub step_next : List GuestRegion → Following → Option ℕ → Descriptor → Result (Option Segment × Following) Error
-step_next rs f (Some i) d = step_at rs f i d
+step_next rs f (Some _) d = step_at rs f d
 step_next rs f None d = Err ChainEnded
 
 -- what the chain goes on with: the rest of a descriptor, or else the next one, of this value
@@ -124,7 +123,7 @@ step rs f d = step_next rs f f.next (next_value f.rest d)
 
 -- where the table is mapped that the chain is in
 abbrev pub table_of : Following → HostRange
-table_of f = record { addr = f.table; len = 16 * length f.seen }
+table_of f = record { addr = f.table; len = 16 * f.entries }
 
 -- What a step gives: a segment that lies in a region, and is writable if one before it was; or an indirect table that lies in a
 -- region, where one may come.
@@ -143,10 +142,6 @@ IsPart d (Some s) (Some rest) = (s.guest_addr ≡ d.addr) × (s.writable ≡ is_
 abbrev pub Covers : ℕ → ℕ → List Segment → Type 0
 Covers a n [] = n ≡ 0
 Covers a n (s ∷ rest) = (s.guest_addr ≡ a) × (s.range.len ≤ n) × Covers (a + s.range.len) (n - s.range.len) rest
-
--- the descriptor whose last segment came was not followed before, and is marked as followed
-abbrev pub FollowsOnce : Following → Following → Type 0
-FollowsOnce f g = (g.rest ≡ None) → (i : ℕ) × (f.next ≡ Some i) × (slice_index_or f.seen i false ≡ false) × (g.seen ≡ slice_set f.seen i true)
 
 -- it is at the head of a chain in a table that is mapped there, and may have so many descriptors
 abbrev pub Begins : HostRange → ℕ → Following → Type 0

@@ -65,8 +65,8 @@ abbrev pub as_split : State → ℕ → PackedDescriptor → Descriptor
 as_split s i d = record {
   addr = d.addr;
   len = d.len;
-  flags = if s.in_ring then d.flags else if nat_lt (i + 1) (length s.chain.seen) then bit_or (bit_and d.flags 6) 1 else bit_and d.flags 6;
-  next = following_place (length s.chain.seen) i;
+  flags = if s.in_ring then d.flags else if nat_lt (i + 1) s.chain.entries then bit_or (bit_and d.flags 6) 1 else bit_and d.flags 6;
+  next = following_place s.chain.entries i;
 }
 
 -- whether the descriptor is the chain's last in the ring, whose id is the chain's

@@ -1,11 +1,11 @@
 -- Where a device stands in a split queue, and what its steps make of it: virtio 1.2, 2.7.
-use Rattle.std.specs.Prelude.{ℕ, ◌≡◌, Bool, true, false, List, ◌==◌, nat_lt, Option, Some, None, Result, Ok, Err, if◌then◌else◌, is_some, slice_index_or, slice_set, replicate}
+use Rattle.std.specs.Prelude.{ℕ, ◌≡◌, Bool, true, false, not, List, ◌==◌, nat_lt, Option, Some, None, Result, Ok, Err, if◌then◌else◌, is_some, slice_index_or, slice_set, replicate}
 use Rattle.vhost_queue.specs.Chain.{Following, begun, following, segment_limit, step}
-use Rattle.vhost_queue.specs.Notification.{moved, next_index, Passes}
+use Rattle.vhost_queue.specs.Notification.{moved, next_index, previous_index, Passes}
 use Rattle.vhost_queue.specs.declared.descriptor.Descriptor.{Descriptor}
 use Rattle.vhost_queue.specs.declared.descriptor.Segment.{Segment}
 use Rattle.vhost_queue.specs.declared.error.Error.{Error}
-use Rattle.vhost_queue.specs.declared.error.Error.TheVariants.{NeedsReset, NothingAvailable, TooManyAvailable, HeadInUse, NotHandedOut}
+use Rattle.vhost_queue.specs.declared.error.Error.TheVariants.{NeedsReset, NotInTable, NothingAvailable, TooManyAvailable, HeadInUse, NotHandedOut}
 use Rattle.vhost_queue.specs.declared.memory.GuestRegion.{GuestRegion}
 use Rattle.vhost_queue.specs.declared.queue.Queue.{Queue}
 use Rattle.vhost_queue.specs.declared.queue.QueueConfig.{QueueConfig}
@@ -98,6 +98,20 @@ abbrev pub used : State → ℕ → Result State Error
 used s head =
     if slice_index_or s.out head false then Ok (record s { next_used = next_index s.next_used; out = slice_set s.out head false })
     else Err NotHandedOut
+
+-- a pop is undone: the entry of the available ring that was read last is next again
+abbrev pub given_back : ℕ → State → ℕ → Result State Error
+given_back size s head =
+    if not (slice_index_or s.out head false) then Err NotHandedOut
+    else if nat_lt size (moved (previous_index s.next_avail) s.avail_idx) then Err TooManyAvailable
+    else Ok (record s { next_avail = previous_index s.next_avail; out = slice_set s.out head false; chain = record s.chain { next = None } })
+
+-- the device has the chain of this head, which was taken before the queue was started
+abbrev pub adopted : ℕ → State → ℕ → Result State Error
+adopted size s head =
+    if not (nat_lt head size) then Err NotInTable
+    else if slice_index_or s.out head false then Err HeadInUse
+    else Ok (record s { out = slice_set s.out head true })
 
 -- whether the driver is to be told of what was used since it was last told: by its event index, or by its flags
 abbrev pub IsToldOf : Option ℕ → ℕ → ℕ → Type 0

@@ -7,13 +7,12 @@ use crate::descriptor::{DESCRIPTOR_SIZE, Descriptor, Segment};
 use crate::error::{Error, Result};
 use crate::memory::{AddressSpace, GuestMemory, HostRange};
 use crate::segment::{INDIRECT, NEXT, WRITE, segment_of};
-use crate::table::{clear, table_entries};
-use std::alloc::Global;
+use crate::table::table_entries;
 
 // How many times the descriptors of a chain go on in another region: as many borders lie between the regions that there may be.
 const MAX_SPLITS: u16 = 508;
 
-/// A chain that is being followed. It is used again for the next one, since it keeps a mark for each descriptor of a table.
+/// A chain that is being followed.
 #[derive(Drop)]
 pub struct DescriptorChain {
     /// Where the table is mapped, and how many descriptors it has.
@@ -30,34 +29,27 @@ pub struct DescriptorChain {
     writing: bool,
     /// Whether an indirect table may come.
     nests: bool,
-    /// Which descriptors of the table were followed.
-    seen: Vec<bool>,
     /// How many descriptors with bytes a chain has at most.
     limit: u16,
     ghost fits: { table + 16 * entries < 2 ^ 64 },
-    ghost marks: { length seen.items ≡ limit },
     ghost small: { entries ≤ limit },
     ghost enough: { left ≤ limit },
     ghost within: { ForSome next (λ i. i < entries) },
     ghost some: { ForSome next (λ _. 0 < left) },
-    ghost fresh: { ForSome next (λ i. slice_index_or seen.items i false ≡ false) },
 }
 
 impl DescriptorChain {
-    ghost use Rattle.vhost_queue.specs.Chain.{after, begun, following, gone_on, split, table_of, Begins, FollowsOnce, GoesOn, IsPart, limit_of, nested, next_of, next_value, place_of, rest_of, step};
+    ghost use Rattle.vhost_queue.specs.Chain.{after, begun, following, gone_on, split, table_of, Begins, GoesOn, IsPart, limit_of, nested, next_of, next_value, place_of, rest_of, step};
     ghost use Rattle.vhost_queue.specs.Places.{at, Within};
     ghost use Rattle.vhost_queue.specs.Segment.{is_writable};
-    ghost use Rattle.std.specs.Prelude.{IfSome, is_some};
-    ghost use Rattle.vhost_queue.specs.declared.error.Error.TheVariants.{OutOfMemory};
+    ghost use Rattle.std.specs.Prelude.{IfSome, IsSome, is_some};
 
     /// No chain yet. Each will have at most so many descriptors with bytes.
-    pub fn new(alloc: Global, limit: u16) -> Result<DescriptorChain>
-        ensures limit { IfOk result (λ chain. limit_of chain ≡ limit) }
-        ensures ended { IfOk result (λ chain. (following chain).next ≡ None) }
-        ensures reason { IfErr result (λ e. e ≡ OutOfMemory) }
+    pub fn new(limit: u16) -> DescriptorChain
+        ensures limit { limit_of result ≡ limit }
+        ensures ended { (following result).next ≡ None }
     {
-        let seen = vec![in alloc; false; usize::from(limit)]?;
-        Ok(DescriptorChain {
+        DescriptorChain {
             table: 0,
             entries: 0,
             next: None,
@@ -66,9 +58,8 @@ impl DescriptorChain {
             splits: 0,
             writing: false,
             nests: false,
-            seen,
             limit,
-        })
+        }
     }
 
     /// The chain that was followed is none any more.
@@ -92,7 +83,6 @@ impl DescriptorChain {
         if head >= size {
             return Err(Error::NotInTable);
         }
-        clear(&mut self.seen, usize::from(size));
         self.table = table;
         self.entries = size;
         self.next = Some(head);
@@ -107,14 +97,24 @@ impl DescriptorChain {
     /// The place in its table of the descriptor that is next, if the chain goes on.
     pub fn next(&self) -> Option<u16>
         ensures exact { result ≡ (following self.now).next }
-        ensures within { IfSome result (λ i. i < length (following self.now).seen) }
+        ensures within { IfSome result (λ i. i < (following self.now).entries) }
     {
         self.next
     }
 
+    /// Where its table is mapped.
+    pub fn table(&self) -> HostRange
+        ensures { result ≡ table_of (following self.now) }
+    {
+        HostRange {
+            addr: self.table,
+            len: DESCRIPTOR_SIZE * u64::from(self.entries),
+        }
+    }
+
     /// How many descriptors its table has.
     pub fn entries(&self) -> u16
-        ensures { result ≡ length (following self.now).seen }
+        ensures { result ≡ (following self.now).entries }
     {
         self.entries
     }
@@ -152,14 +152,13 @@ impl DescriptorChain {
         ensures err { IfErr result (λ e. step memory.old.regions.items (following self.old) descriptor ≡ Err e) }
         ensures goes_on { IfOk result (λ segment. GoesOn memory.old.regions.items (following self.old) segment (following self.new)) }
         ensures part { IfOk result (λ segment. IsPart (next_value (following self.old).rest descriptor) segment (following self.new).rest) }
-        ensures once { IfOk result (λ segment. IfSome segment (λ _. FollowsOnce (following self.old) (following self.new))) }
         ensures kept { OnErr result (self.new ≡ self.old) }
         ensures limit { limit_of self.new ≡ limit_of self.old }
         ensures memory { memory.new.regions.items ≡ memory.old.regions.items }
     {
-        let Some(at) = self.next else {
+        if self.next.is_none() {
             return Err(Error::ChainEnded);
-        };
+        }
         let descriptor = self.rest.unwrap_or(descriptor);
         if descriptor.flags & INDIRECT != 0 {
             self.enter(memory, descriptor)?;
@@ -172,7 +171,7 @@ impl DescriptorChain {
             next: _,
         } = descriptor;
         let segment = segment_of(memory, self.writing, addr, len, flags)?;
-        self.go_on(at, descriptor, segment.range.len)?;
+        self.go_on(descriptor, segment.range.len)?;
         Ok(Some(segment))
     }
 
@@ -194,7 +193,6 @@ impl DescriptorChain {
         let len = u64::from(descriptor.len);
         let entries = table_entries(len, self.left)?;
         let table = memory.translate(AddressSpace::Guest, descriptor.addr, len)?;
-        clear(&mut self.seen, usize::from(entries));
         self.table = table.addr;
         self.entries = entries;
         self.next = Some(0);
@@ -204,22 +202,21 @@ impl DescriptorChain {
     }
 
     // The chain goes on behind these first bytes of a descriptor, or all of them.
-    fn go_on(&mut self, at: u16, descriptor: Descriptor, len: u64) -> Result<()>
-        requires next { self.old.next ≡ Some at }
+    fn go_on(&mut self, descriptor: Descriptor, len: u64) -> Result<()>
+        requires next { IsSome self.old.next }
         requires some { 0 < len }
         requires most { len ≤ descriptor.len }
         requires fits { descriptor.addr + len < 2 ^ 64 }
-        ensures ok { OnOk result (gone_on (following self.old) at descriptor len ≡ Ok (following self.new)) }
+        ensures ok { OnOk result (gone_on (following self.old) descriptor len ≡ Ok (following self.new)) }
         ensures goes_on { OnOk result (((following self.new).left + (following self.new).splits + 1 ≡ (following self.old).left + (following self.old).splits) × ((following self.new).writing ≡ is_writable descriptor.flags) × (table_of (following self.new) ≡ table_of (following self.old)) × ((following self.new).nests ≡ (following self.old).nests)) }
         ensures whole { OnOk result ((following self.new).rest ≡ None → len ≡ descriptor.len) }
         ensures part { OnOk result (IfSome (following self.new).rest (λ rest. (len < descriptor.len) × (rest ≡ rest_of descriptor len))) }
-        ensures once { OnOk result (FollowsOnce (following self.old) (following self.new)) }
-        ensures err { IfErr result (λ e. gone_on (following self.old) at descriptor len ≡ Err e) }
+        ensures err { IfErr result (λ e. gone_on (following self.old) descriptor len ≡ Err e) }
         ensures kept { OnErr result (self.new ≡ self.old) }
         ensures limit { limit_of self.new ≡ limit_of self.old }
     {
         if len == u64::from(descriptor.len) {
-            return self.follow(at, descriptor);
+            return self.follow(descriptor);
         }
         if self.splits == 0 {
             return Err(Error::ChainTooLong);
@@ -236,17 +233,15 @@ impl DescriptorChain {
     }
 
     // The chain goes on behind this descriptor, if it does.
-    fn follow(&mut self, at: u16, descriptor: Descriptor) -> Result<()>
-        requires next { self.old.next ≡ Some at }
-        ensures ok { OnOk result (after (following self.old) at descriptor ≡ Ok (following self.new)) }
+    fn follow(&mut self, descriptor: Descriptor) -> Result<()>
+        requires next { IsSome self.old.next }
+        ensures ok { OnOk result (after (following self.old) descriptor ≡ Ok (following self.new)) }
         ensures goes_on { OnOk result (((following self.new).left + 1 ≡ (following self.old).left) × ((following self.new).splits ≡ (following self.old).splits) × ((following self.new).rest ≡ None) × ((following self.new).writing ≡ is_writable descriptor.flags) × (table_of (following self.new) ≡ table_of (following self.old)) × ((following self.new).nests ≡ (following self.old).nests)) }
-        ensures once { OnOk result (FollowsOnce (following self.old) (following self.new)) }
-        ensures err { IfErr result (λ e. after (following self.old) at descriptor ≡ Err e) }
+        ensures err { IfErr result (λ e. after (following self.old) descriptor ≡ Err e) }
         ensures kept { OnErr result (self.new ≡ self.old) }
         ensures limit { limit_of self.new ≡ limit_of self.old }
     {
-        let next = self.next_of(at, descriptor)?;
-        self.seen[usize::from(at)] = true;
+        let next = self.next_of(descriptor)?;
         self.next = next;
         self.rest = None;
         self.left -= 1;
@@ -254,12 +249,11 @@ impl DescriptorChain {
         Ok(())
     }
 
-    // Which descriptor comes behind the one at a place, if any does.
-    fn next_of(&self, at: u16, descriptor: Descriptor) -> Result<Option<u16>>
-        ensures exact { result ≡ next_of (following self.now) at descriptor }
+    // Which descriptor comes behind one of this value, if any does.
+    fn next_of(&self, descriptor: Descriptor) -> Result<Option<u16>>
+        ensures exact { result ≡ next_of (following self.now) descriptor }
         ensures within { IfOk result (λ next. ForSome next (λ i. i < self.now.entries)) }
         ensures some { IfOk result (λ next. ForSome next (λ i. self.now.left ≢ 1)) }
-        ensures fresh { IfOk result (λ next. ForSome next (λ i. (i ≢ at) × (slice_index_or self.now.seen.items i false ≡ false))) }
     {
         if descriptor.flags & NEXT == 0 {
             return Ok(None);
@@ -267,9 +261,6 @@ impl DescriptorChain {
         let next = descriptor.next;
         if next >= self.entries {
             return Err(Error::NotInTable);
-        }
-        if next == at || self.seen[usize::from(next)] {
-            return Err(Error::DescriptorLoop);
         }
         if self.left == 1 {
             return Err(Error::ChainTooLong);

@@ -32,8 +32,6 @@ pub enum Error {
     EmptyDescriptor,
     #[error("a head or a next descriptor is not in its table")]
     NotInTable,
-    #[error("a descriptor comes twice in its chain")]
-    DescriptorLoop,
     #[error("a chain has more descriptors than it may")]
     ChainTooLong,
     #[error("a readable descriptor follows a writable one")]

@@ -89,7 +89,7 @@ pub struct PackedQueue {
 
 impl PackedQueue {
     ghost use Rattle.std.specs.Prelude.{◌⊎◌, replicate, slice_index_or, slice_set, if◌then◌else◌, IfSome, IsSome};
-    ghost use Rattle.vhost_queue.specs.Chain.{begun, place_of, step, table_of, Begins, FollowsOnce, GoesOn};
+    ghost use Rattle.vhost_queue.specs.Chain.{begun, following, place_of, step, table_of, Begins, GoesOn};
     ghost use Rattle.vhost_queue.specs.Packed.{IsNew, IsSameQueue, IsToldOf, as_split, beginning, broken, resubmitted, resumed, refused_step, fault_of, gone_on, is_last, popped, state, stepped, used, used_flags};
     ghost use Rattle.vhost_queue.specs.PackedRings.{ring_range, driver_range, device_range};
     ghost use Rattle.vhost_queue.specs.Places.{at, Within};
@@ -109,7 +109,7 @@ impl PackedQueue {
         } else {
             rings.size()
         };
-        let chain = DescriptorChain::new(alloc, limit)?;
+        let chain = DescriptorChain::new(limit);
         let out = vec![in alloc; 0; usize::from(rings.size())]?;
         Ok(PackedQueue {
             rings,
@@ -227,6 +227,13 @@ impl PackedQueue {
         self.in_ring
     }
 
+    /// The chain that is followed.
+    pub fn chain(&self) -> &DescriptorChain
+        ensures { following result.now ≡ (state self.now).chain }
+    {
+        &self.chain
+    }
+
     /// The descriptor that is to be read next, if the chain that is followed goes on. No bytes: one that was read goes on in another
     /// region, and its rest comes next.
     pub fn descriptor_place(&self) -> Option<HostRange>
@@ -248,7 +255,6 @@ impl PackedQueue {
         ensures ok { IfOk result (λ segment. stepped memory.old.regions.items self.old.rings.size (state self.old) descriptor ≡ Ok (segment, state self.new)) }
         ensures err { IfErr result (λ e. stepped memory.old.regions.items self.old.rings.size (state self.old) descriptor ≡ Err e) }
         ensures goes_on { IfOk result (λ segment. GoesOn memory.old.regions.items (state self.old).chain segment (state self.new).chain) }
-        ensures followed_once { IfOk result (λ segment. IfSome segment (λ _. FollowsOnce (state self.old).chain (state self.new).chain)) }
         ensures taken_once { OnOk result ((state self.old).chain.rest ≡ None → is_last (state self.old) descriptor ≡ true → slice_index_or (state self.old).out descriptor.id 0 ≡ 0) }
         ensures kept { OnErr result (state self.new ≡ refused_step (state self.old)) }
         ensures rings { IsSameQueue self.old self.new }
@@ -303,7 +309,7 @@ impl PackedQueue {
 
     // The descriptor as one of a split chain.
     fn as_split(&self, at: u16, descriptor: &PackedDescriptor) -> Descriptor
-        requires { at < length (state self.now).chain.seen }
+        requires { at < (state self.now).chain.entries }
         ensures { result ≡ as_split (state self.now) at descriptor.now }
     {
         let goes_on = at + 1 < self.chain.entries();

@@ -71,10 +71,10 @@ pub struct Queue {
 
 impl Queue {
     ghost use Rattle.std.specs.Prelude.{◌%◌, bit_and, if◌then◌else◌, slice_index_or, slice_set, IsSome, IfSome};
-    ghost use Rattle.vhost_queue.specs.Chain.{place_of, table_of, Begins, FollowsOnce, GoesOn};
+    ghost use Rattle.vhost_queue.specs.Chain.{following, place_of, table_of, Begins, GoesOn};
     ghost use Rattle.vhost_queue.specs.Memory.{LiesIn};
     ghost use Rattle.vhost_queue.specs.declared.error.Error.TheVariants.{InvalidSize, OutOfMemory};
-    ghost use Rattle.vhost_queue.specs.Queue.{IsNew, IsSameQueue, state, broken, refused_pop, refused_step, told, popped, resubmitted, stepped, taken, used, IsToldOf};
+    ghost use Rattle.vhost_queue.specs.Queue.{IsNew, IsSameQueue, state, adopted, broken, given_back, refused_pop, refused_step, told, popped, resubmitted, stepped, taken, used, IsToldOf};
     ghost use Rattle.vhost_queue.specs.Rings.{table_range, avail_range, used_range};
     ghost use Rattle.vhost_queue.specs.Places.{at, Within};
 
@@ -88,7 +88,7 @@ impl Queue {
         } else {
             rings.size()
         };
-        let chain = DescriptorChain::new(alloc, limit)?;
+        let chain = DescriptorChain::new(limit);
         let out = vec![in alloc; false; usize::from(rings.size())]?;
         Ok(Queue {
             rings,
@@ -240,6 +240,57 @@ impl Queue {
         Ok(())
     }
 
+    /// The last entry of the available ring that was read is to be read again, and its head is not the device's. The chain that was followed
+    /// is none any more.
+    ///
+    /// NotHandedOut: the device has no such chain. TooManyAvailable: more would be available than there can be. Then nothing changes.
+    pub fn give_back(&mut self, head: u16) -> Result<()>
+        ensures ok { OnOk result (given_back self.old.rings.size (state self.old) head ≡ Ok (state self.new)) }
+        ensures once { OnOk result ((slice_index_or (state self.old).out head false ≡ true) × ((state self.new).out ≡ slice_set (state self.old).out head false)) }
+        ensures err { IfErr result (λ e. given_back self.old.rings.size (state self.old) head ≡ Err e) }
+        ensures kept { OnErr result (self.new ≡ self.old) }
+        ensures rings { IsSameQueue self.old self.new }
+    {
+        if head >= self.rings.size() || !self.out[usize::from(head)] {
+            return Err(Error::NotHandedOut);
+        }
+        let next_avail = self.next_avail.wrapping_sub(1);
+        if self.avail_idx.wrapping_sub(next_avail) > self.rings.size() {
+            return Err(Error::TooManyAvailable);
+        }
+        self.out[usize::from(head)] = false;
+        self.next_avail = next_avail;
+        self.chain.end();
+        Ok(())
+    }
+
+    /// The chain of this head is the device's, though none was read here: it was taken before the queue was started. It is not followed.
+    ///
+    /// NotInTable: there is no such head. HeadInUse: the device has its chain. Then nothing changes.
+    pub fn adopt(&mut self, head: u16) -> Result<()>
+        ensures ok { OnOk result (adopted self.old.rings.size (state self.old) head ≡ Ok (state self.new)) }
+        ensures once { OnOk result ((slice_index_or (state self.old).out head false ≡ false) × ((state self.new).out ≡ slice_set (state self.old).out head true)) }
+        ensures err { IfErr result (λ e. adopted self.old.rings.size (state self.old) head ≡ Err e) }
+        ensures kept { OnErr result (self.new ≡ self.old) }
+        ensures rings { IsSameQueue self.old self.new }
+    {
+        if head >= self.rings.size() {
+            return Err(Error::NotInTable);
+        }
+        if self.out[usize::from(head)] {
+            return Err(Error::HeadInUse);
+        }
+        self.out[usize::from(head)] = true;
+        Ok(())
+    }
+
+    /// The chain that is followed.
+    pub fn chain(&self) -> &DescriptorChain
+        ensures { following result.now ≡ (state self.now).chain }
+    {
+        &self.chain
+    }
+
     /// The descriptor that is to be read next, if the chain that is followed goes on. No bytes: one that was read goes on in another
     /// region, and its rest comes next.
     pub fn descriptor_place(&self) -> Option<HostRange>
@@ -261,7 +312,6 @@ impl Queue {
         ensures ok { IfOk result (λ segment. stepped memory.old.regions.items (state self.old) descriptor ≡ Ok (segment, state self.new)) }
         ensures err { IfErr result (λ e. stepped memory.old.regions.items (state self.old) descriptor ≡ Err e) }
         ensures goes_on { IfOk result (λ segment. GoesOn memory.old.regions.items (state self.old).chain segment (state self.new).chain) }
-        ensures once { IfOk result (λ segment. IfSome segment (λ _. FollowsOnce (state self.old).chain (state self.new).chain)) }
         ensures kept { OnErr result (state self.new ≡ refused_step (state self.old)) }
         ensures rings { IsSameQueue self.old self.new }
         ensures memory { memory.new.regions.items ≡ memory.old.regions.items }

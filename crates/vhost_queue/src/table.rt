@@ -1,22 +1,10 @@
-//! How large a table of descriptors is, and which of them were followed.
+//! How large a table of descriptors is.
 
-ghost use Rattle.std.specs.Prelude.{◌≡◌, ℕ, ◌*◌, ◌<◌, ◌≤◌, false, slice_index_or, length, take, replicate, IfOk};
+ghost use Rattle.std.specs.Prelude.{◌≡◌, ◌*◌, ◌≤◌, IfOk};
 ghost use Rattle.vhost_queue.specs.Segment.{table_entries};
 
 use crate::descriptor::DESCRIPTOR_SIZE;
 use crate::error::{Error, Result};
-
-/// None of the first descriptors was followed.
-pub(crate) fn clear(seen: &mut Vec<bool>, entries: usize)
-    requires { entries ≤ length seen.old.items }
-    ensures cleared { take entries seen.new.items ≡ replicate entries false }
-    ensures none { (i : ℕ) → i < entries → slice_index_or seen.new.items i false ≡ false }
-    ensures len { length seen.new.items ≡ length seen.old.items }
-{
-    for at in 0..entries {
-        seen[at] = false;
-    }
-}
 
 /// How many descriptors an indirect table of so many bytes has, where so many may come.
 pub(crate) fn table_entries(len: u64, left: u16) -> Result<u16>

@@ -147,7 +147,7 @@ fn segments_of(
 fn segments_at_a_border(alloc: Global) -> Result<usize> {
     let mut memory = GuestMemory::new(alloc);
     memory.set(alloc, &Guest::two_regions())?;
-    let mut chain = DescriptorChain::new(alloc, 4)?;
+    let mut chain = DescriptorChain::new(4);
     chain.begin(0x1000, 4, false, 0)?;
     segments_of(alloc, &mut memory, &mut chain)
 }

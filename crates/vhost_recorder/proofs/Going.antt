@@ -4,7 +4,7 @@ use Rattle.vhost_protocol.specs.FrontendCall.{Frontend}
 use Rattle.vhost_protocol.specs.Joined.{Shown, JoinedStep, JoinedRun}
 use Rattle.vhost_protocol.specs.Session.{Session}
 use Rattle.vhost_link.specs.declared.plain.PlainHandle.{PlainHandle}
-use Rattle.vhost_pair.specs.Device.{Gives, opens_backend, opens_gpu}
+use Rattle.vhost_joined.specs.Device.{Gives, opens_backend, opens_gpu}
 use Rattle.vhost_recorder.specs.Kept.{Exchange, GoesFrom}
 
 module _ {Dev : Type 0} (gives : Gives Dev) where

@@ -12,13 +12,13 @@ use Rattle.vhost_protocol.specs.Session.{Session, fresh}
 use Rattle.vhost_link.specs.declared.plain.PlainHandle.{PlainHandle}
 use Rattle.vhost_frontend_core.specs.declared.values.answer.FrontendAnswer.{FrontendAnswer}
 use Rattle.vhost_frontend_core.specs.Values.{answer_of}
-use Rattle.vhost_pair.specs.declared.halt.Halt.{Halt}
-use Rattle.vhost_pair.specs.declared.halt.Halt.TheVariants as halt
-use Rattle.vhost_pair.specs.declared.halt.Stop.TheVariants.{Table, Premise}
-use Rattle.vhost_pair.specs.Device.{Gives, opens_backend, opens_gpu}
-use Rattle.vhost_pair.specs.Joined.{View, IsReady, Keeps, Answers, Steps}
-use Rattle.vhost_pair.specs.Lockstep.{IsPlain}
-use Rattle.vhost_pair.proofs.Ready.{stays-shown}
+use Rattle.vhost_joined.specs.declared.halt.Halt.{Halt}
+use Rattle.vhost_joined.specs.declared.halt.Halt.TheVariants as halt
+use Rattle.vhost_joined.specs.declared.halt.Stop.TheVariants.{Table, Premise}
+use Rattle.vhost_joined.specs.Device.{Gives, opens_backend, opens_gpu}
+use Rattle.vhost_joined.specs.Joined.{View, IsReady, Keeps, Answers, Steps}
+use Rattle.vhost_joined.specs.Lockstep.{IsPlain}
+use Rattle.vhost_joined.proofs.Ready.{stays-shown}
 use Rattle.vhost_recorder.specs.Recording.{Recording, is_broken, HasLegalLog, Appends}
 use Rattle.vhost_recorder.specs.Kept.{Exchange, exchange, is_plain, are_plain, bit_after, Allows, GoesFrom, GoesOn, IsKept}
 use Rattle.vhost_recorder.proofs.Logs.{numbered-more, bit-more, plain-more, kept-more, kept-all, kept-cut, but-last, no-shorter}

@@ -6,8 +6,8 @@ use Rattle.vhost_protocol.specs.Joined.{Shown, JoinedStep}
 use Rattle.vhost_protocol.specs.Log.{Entry, is_plain_call, is_same_bit, first_bit, offered_bit}
 use Rattle.vhost_protocol.specs.Session.{Session, fresh}
 use Rattle.vhost_link.specs.declared.plain.PlainHandle.{PlainHandle}
-use Rattle.vhost_pair.specs.Device.{Gives, opens_backend, opens_gpu}
-use Rattle.vhost_pair.specs.Joined.{IsReady}
+use Rattle.vhost_joined.specs.Device.{Gives, opens_backend, opens_gpu}
+use Rattle.vhost_joined.specs.Joined.{IsReady}
 use Rattle.vhost_recorder.specs.Recording.{Recording, HasLegalLog}
 
 -- a call and its answer

@@ -5,12 +5,12 @@ use Rattle.vhost_protocol.specs.Log.{Entry, calls_of, IsLegal}
 use Rattle.vhost_link.specs.declared.plain.PlainHandle.{PlainHandle}
 use Rattle.vhost_frontend_core.specs.declared.values.answer.FrontendAnswer.{FrontendAnswer}
 use Rattle.vhost_frontend_core.specs.Values.{answer_of}
-use Rattle.vhost_pair.specs.declared.halt.Halt.{Halt}
-use Rattle.vhost_pair.specs.declared.halt.Halt.TheVariants as halt
-use Rattle.vhost_pair.specs.declared.halt.Stop.{Stop}
-use Rattle.vhost_pair.specs.declared.halt.Stop.TheVariants.{Premise}
-use Rattle.vhost_pair.specs.Device.{Gives, opens_backend, opens_gpu}
-use Rattle.vhost_pair.specs.Joined.{View, Steps}
+use Rattle.vhost_joined.specs.declared.halt.Halt.{Halt}
+use Rattle.vhost_joined.specs.declared.halt.Halt.TheVariants as halt
+use Rattle.vhost_joined.specs.declared.halt.Stop.{Stop}
+use Rattle.vhost_joined.specs.declared.halt.Stop.TheVariants.{Premise}
+use Rattle.vhost_joined.specs.Device.{Gives, opens_backend, opens_gpu}
+use Rattle.vhost_joined.specs.Joined.{View, Steps}
 
 -- The joined run, what was recorded of it, and how many queues its frontend was opened with.
 pub record Recording (Dev : Type 0) : Type 0 where

@@ -3,7 +3,7 @@ use Rattle.std.specs.Prelude.{◌≡◌, ◌≤◌, ℕ, [], Option, Some, None,
 use Rattle.vhost_protocol.specs.Error.{Error}
 use Rattle.vhost_protocol.specs.FrontendCall.{FrontendCall, Value}
 use Rattle.vhost_link.specs.declared.plain.PlainHandle.{PlainHandle}
-use Rattle.vhost_pair.specs.Lists.{bases_in, bytes_in, records_in, regions_in, buffer_in, records_for}
+use Rattle.vhost_joined.specs.Lists.{bases_in, bytes_in, records_in, regions_in, buffer_in, records_for}
 use Rattle.vhost_recorder.specs.declared.copying.answers.Room.{Room}
 
 -- nothing is in it yet

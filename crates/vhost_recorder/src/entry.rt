@@ -5,7 +5,7 @@ ghost use Rattle.vhost_frontend_core.specs.Values.{call_of, answer_of};
 
 use std::marker::Model;
 use vhost_comparing::{is_same_answer, is_same_call};
-use vhost_pair::{FrontendAnswer, FrontendCall};
+use vhost_joined::{FrontendAnswer, FrontendCall};
 
 /// Who called, how many times before, with what, and what was answered.
 #[derive(Drop)]

@@ -14,4 +14,4 @@ pub use log::Log;
 pub use recorded::{Receipt, Recorded};
 pub use recorder::Recorder;
 pub use share::Share;
-pub use vhost_pair::{FrontendAnswer, FrontendCall, Halt, LogRegion, RegionInfo, Stop};
+pub use vhost_joined::{FrontendAnswer, FrontendCall, Halt, LogRegion, RegionInfo, Stop};

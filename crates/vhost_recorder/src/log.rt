@@ -6,8 +6,8 @@ use crate::entry::Entry;
 use crate::recorded::{Receipt, Recorded};
 use std::marker::Model;
 use vhost_device::VhostUserBackendReqHandlerMut;
+use vhost_joined::Stop;
 use vhost_link::MemLink;
-use vhost_pair::Stop;
 
 /// The log of a recorder that was closed, with the sessions and the device as they were then.
 #[derive(Drop)]

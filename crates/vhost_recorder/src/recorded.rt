@@ -2,7 +2,7 @@
 
 ghost use Rattle.std.specs.Prelude.{◌≡◌, ◌↔◌, [], IfOk, IfErr, IsTrue, None, Contains, length};
 ghost use Rattle.vhost_frontend_core.specs.Values.{call_of, answer_of};
-ghost use Rattle.vhost_pair.specs.declared.halt.Halt.TheVariants.{OutOfMemory};
+ghost use Rattle.vhost_joined.specs.declared.halt.Halt.TheVariants.{OutOfMemory};
 ghost use Rattle.vhost_protocol.specs.Log.{calls_of};
 ghost use Rattle.vhost_recorder.specs.Prepared.{IsPreparedFor};
 
@@ -11,8 +11,8 @@ use crate::entry::Entry;
 use std::alloc::{AllocError, Global};
 use std::marker::Model;
 use vhost_device::VhostUserBackendReqHandlerMut;
+use vhost_joined::{FrontendAnswer, FrontendCall, Halt, Joined, Stop};
 use vhost_link::{Cut, MemLink};
-use vhost_pair::{FrontendAnswer, FrontendCall, Halt, Joined, Stop};
 
 /// A copy of one entry of a log. Only [`Recorded::step`] makes one.
 #[derive(Drop)]
@@ -89,7 +89,7 @@ impl<D: VhostUserBackendReqHandlerMut<Link = MemLink>> Model for Recorded<D> {
 }
 
 impl<D: VhostUserBackendReqHandlerMut<Link = MemLink>> Recorded<D> {
-    ghost use Rattle.vhost_pair.specs.Sides.{as_view, fresh_parts};
+    ghost use Rattle.vhost_joined.specs.Sides.{as_view, fresh_parts};
     ghost use Rattle.vhost_recorder.specs.Recording.{Records, HasLegalLog};
 
     /// Joins both sides as [`Joined::new`] does, with an empty log.

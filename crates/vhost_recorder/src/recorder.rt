@@ -2,7 +2,7 @@
 
 ghost use Rattle.std.specs.Prelude.{◌≡◌, ◌+◌, ◌<◌, IfOk, IfErr, OnErr, length};
 ghost use Rattle.vhost_frontend_core.specs.Values.{call_of};
-ghost use Rattle.vhost_pair.specs.declared.halt.Halt.TheVariants.{OutOfMemory};
+ghost use Rattle.vhost_joined.specs.declared.halt.Halt.TheVariants.{OutOfMemory};
 ghost use Rattle.vhost_recorder.specs.Share.{parts_of, count_of, caller_of};
 
 use crate::log::Log;
@@ -12,8 +12,8 @@ use std::alloc::Global;
 use std::sync::ledger::{Blank, Book, Ledger};
 use std::sync::{Mutex, Wait};
 use vhost_device::VhostUserBackendReqHandlerMut;
+use vhost_joined::{FrontendCall, Halt};
 use vhost_link::{Cut, MemLink};
-use vhost_pair::{FrontendCall, Halt};
 
 /// What lies under the lock: the recording, and the ledger's count of its entries.
 #[derive(Drop)]
@@ -25,7 +25,7 @@ struct Desk<D: VhostUserBackendReqHandlerMut<Link = MemLink>, L: Ledger> {
 
 impl<D: VhostUserBackendReqHandlerMut<Link = MemLink>, L: Ledger> Desk<D, L> {
     ghost use Rattle.std.specs.Prelude.{[], None};
-    ghost use Rattle.vhost_pair.specs.Sides.{as_view, fresh_parts};
+    ghost use Rattle.vhost_joined.specs.Sides.{as_view, fresh_parts};
 
     /// A recording over two new sides with these queues and this retry limit, and a count of nothing, with all parts of the ledger.
     ///
@@ -78,7 +78,7 @@ pub struct Recorder<D: VhostUserBackendReqHandlerMut<Link = MemLink>, L: Ledger>
 }
 
 impl<D: VhostUserBackendReqHandlerMut<Link = MemLink>, L: Ledger> Recorder<D, L> {
-    /// A recorder over two new sides, which are joined as [`Joined::new`](vhost_pair::Joined::new) does, and the share of
+    /// A recorder over two new sides, which are joined as [`Joined::new`](vhost_joined::Joined::new) does, and the share of
     /// caller 0, which has all parts of the ledger.
     ///
     /// `Halt::OutOfMemory`: an allocation failed.

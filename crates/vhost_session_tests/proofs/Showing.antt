@@ -6,8 +6,8 @@ use Rattle.std.specs.Fmt.{digits}
 use Rattle.std.specs.Str.{is_utf8, chars}
 use Rattle.std.specs.declared.alloc.Global.{Global}
 use lib.Utf8.{encode}
-use Rattle.vhost_message.specs.FrontendReq.{request_number}
-use Rattle.vhost_message.specs.declared.frontend_req.FrontendReq.TheVariants.{GET_FEATURES}
+use Rattle.vhost_message.specs.HeardReq.{request_number}
+use Rattle.vhost_message.specs.declared.heard_req.HeardReq.TheVariants.{GET_FEATURES}
 use Rattle.vhost_protocol.specs.FrontendCall as calls
 use Rattle.vhost_protocol.specs.FrontendCall.{Frontend, FrontendCall, GetFeatures, SetOwner, new_frontend}
 use Rattle.vhost_protocol.specs.Joined.{Shown, JoinedStep, is_last}
@@ -19,8 +19,8 @@ use Rattle.vhost_dummy_backend.specs.Dummy.{DummyGives}
 use Rattle.vhost_frontend_core.specs.Values.{answer_of}
 use Rattle.vhost_frontend_core.specs.declared.values.answer.FrontendAnswer.{FrontendAnswer}
 use Rattle.vhost_frontend_core.specs.declared.values.answer.FrontendAnswer.TheVariants as answer
-use Rattle.vhost_pair.specs.Device.{opens_backend, opens_gpu}
-use Rattle.vhost_pair.specs.Text.{text_of}
+use Rattle.vhost_joined.specs.Device.{opens_backend, opens_gpu}
+use Rattle.vhost_joined.specs.Text.{text_of}
 use Rattle.vhost_lines.specs.Calls.{call_in}
 use Rattle.vhost_lines.specs.Lines.{bad_line, lines, status_of}
 use Rattle.vhost_protocol.specs.declared.profile.Profile.TheVariants.{Vhost}
@@ -89,11 +89,11 @@ second-call : call_in second_line ≡ Some SetOwner
 unfolding is_utf8 chars encode
 second-call = refl
 
-all-lines : good_lines (lines two_lines) ≡ first_line ∷ second_line ∷ []
+all-lines : good_lines false (lines two_lines) ≡ first_line ∷ second_line ∷ []
 unfolding is_utf8 chars encode
 all-lines = refl
 
-pub no-bad : status_of (bad_line 1 (lines two_lines)) ≡ 0
+pub no-bad : status_of (bad_line false 1 (lines two_lines)) ≡ 0
 unfolding is_utf8 chars encode
 no-bad = refl
 
@@ -135,7 +135,7 @@ both alloc text (call, shown, a, g, t, mid, rest, is_call, step, is_answer, is_t
     ∙ ap (λ x. line_text (record { bytes = features_request; handles = [] }) (record { bytes = features_reply; handles = [] }) (answer.Number 0x40000003) ++ x) shows
 
 -- of a writer that held nothing
-pub shown-lines : (out : List ℕ) → ShowsLines Vhost two_lines (Some []) (Some out) → out ≡ two_lines_shown
+pub shown-lines : (out : List ℕ) → ShowsLines false Vhost two_lines (Some []) (Some out) → out ≡ two_lines_shown
 shown-lines out (shown, (alloc, run), is) = is ∙ both alloc shown (subst (λ ls. RunShows (new_frontend 2) fresh (dummy.fresh alloc spares) ls shown) all-lines run) ∙ both-text
 
 -- a status that is 0 wherever it is not 2

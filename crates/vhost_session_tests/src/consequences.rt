@@ -22,7 +22,7 @@ fn others(rt: &impl Wait, alloc: Global) -> [bool; 6] {
         frontend::hold(rt, alloc) == [true; 7],
         promises::hold(alloc) == [true; 6],
         channels::asks::hold(alloc) == [true; 3],
-        channels::display_asks::hold(alloc) == [true; 2],
+        channels::display_asks::hold(alloc) == [true; 3],
         channels::joined::hold(alloc) == [true; 5],
         channels::serves::hold(rt, alloc),
     ]

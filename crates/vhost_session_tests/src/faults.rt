@@ -2,10 +2,10 @@
 
 use crate::example::Example;
 use std::alloc::Global;
+use vhost_backend_req_handler::SessionCore;
 use vhost_link::{Cut, MemLink};
 use vhost_message::{Error, IoCause, Result as Answer};
 use vhost_promises::{finds_none, meets_fault, serves_no_broken, stays_broken};
-use vhost_serving::SessionCore;
 
 /// GET_FEATURES.
 static GET: [u8; 12] = [1, 0, 0, 0, 1, 0, 0, 0, 0, 0, 0, 0];

@@ -3,9 +3,9 @@
 use crate::example::Example;
 use bitflags::Flags;
 use std::alloc::Global;
+use vhost_joined::{Halt, Joined, Stop};
 use vhost_link::{Cut, MemLink};
 use vhost_message::{Error, VhostUserHeaderFlag, VhostUserProtocolFeatures};
-use vhost_pair::{Halt, Joined, Stop};
 use vhost_promises::{
     claims_twice, refuses_whatever_was, runs_in_lockstep, shows_no_reply, stays_in_step,
 };

@@ -2,6 +2,8 @@
 #![tactic(auto)]
 
 #[cfg(test)]
+mod asking;
+#[cfg(test)]
 mod channels;
 #[cfg(test)]
 mod consequences;
@@ -19,3 +21,5 @@ mod lines;
 mod promises;
 #[cfg(test)]
 mod retries;
+#[cfg(test)]
+mod served;

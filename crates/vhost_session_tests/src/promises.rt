@@ -1,17 +1,18 @@
 //! Worked consequences, each run once with ample memory.
 
 use crate::example::Example;
-use crate::lines::runs_two_lines;
+use crate::lines::{SHOWN, runs_two_lines};
 use std::alloc::Global;
-use vhost_endpoint::Endpoint;
+use vhost_backend_req_handler::SessionCore;
+use vhost_connection::Endpoint;
 use vhost_frontend_req_handler::VhostUserFrontendReqHandlerMut;
+use vhost_joined::Joined;
+use vhost_joined_reverse::JoinedReverse;
 use vhost_link::{Kind, MemLink, PlainHandle};
 use vhost_message::{
-    Error, FrontendReq, HandlerResult, IoCause, IoError, Result as Answer, VhostUserConfig,
+    Error, HandlerResult, HeardReq, IoCause, IoError, Result as Answer, VhostUserConfig,
     VhostUserConfigFlags, VhostUserMsgHeader, VhostUserU64,
 };
-use vhost_pair::Joined;
-use vhost_pair_reverse::JoinedReverse;
 use vhost_promises::{
     answers_whoever_waits, back_and_there, finds_own, goes_on_unserved_new, names_request,
     opens_its_own, records_two, same_number, sends_in_one, serves_by_halves, serves_three_new,
@@ -19,7 +20,6 @@ use vhost_promises::{
 };
 use vhost_protocol::Profile;
 use vhost_recorder::{FrontendAnswer, FrontendCall, Halt, Recorded};
-use vhost_serving::SessionCore;
 
 /// The reply to GET_FEATURES: 0x40000003.
 static FEATURES: [u8; 20] = [
@@ -95,10 +95,6 @@ fn ended<D: Example>(alloc: Global) -> Option<[bool; 3]> {
     };
     Some([is_right, core.failed() == Some(71), wrote(&mut core, &[])])
 }
-
-/// What two lines print.
-const SHOWN: &str =
-    "010000000100000000000000 0100000005000000080000000300004000000000 ok 0x40000003\n030000000100000000000000 - ok\n";
 
 /// Whether two lines are printed so.
 fn two_printed(alloc: Global) -> Option<bool> {
@@ -198,7 +194,7 @@ static CONFIG: [u8; 26] = [
 fn config_sent(alloc: Global) -> Option<[bool; 2]> {
     let link = MemLink::new(alloc, Vec::new(alloc));
     let mut end = Endpoint::from_stream(alloc, link, 2).ok()?;
-    let header = VhostUserMsgHeader::new(FrontendReq::SET_CONFIG, 0, 14);
+    let header = VhostUserMsgHeader::new(HeardReq::SET_CONFIG, 0, 14);
     let part = VhostUserConfig::new(4, 2, VhostUserConfigFlags::WRITABLE);
     let sent = sends_in_one(&mut end, &header, &part, &[7, 8]).is_ok();
     Some([sent, end.link().taken().bytes() == CONFIG.as_slice()])
@@ -243,10 +239,10 @@ fn three_recorded<D: Example>(alloc: Global) -> Result<Three, Halt> {
 }
 
 /// A number that was written and read, one that was read and written, and what a header names that was.
-fn there_and_back() -> Option<(u64, u64, (FrontendReq, u32, bool, bool))> {
+fn there_and_back() -> Option<(u64, u64, (HeardReq, u32, bool, bool))> {
     let mut room = [7, 1, 0, 0, 0, 0, 0, 0];
     let number = back_and_there::<VhostUserU64>(&mut room).value;
-    let named = names_request(FrontendReq::SET_OWNER, 8, 4).ok()?;
+    let named = names_request(HeardReq::SET_OWNER, 8, 4).ok()?;
     Some((same_number(5), number, named))
 }
 
@@ -272,7 +268,7 @@ pub(crate) fn hold_over<D: Example>(alloc: Global) -> [bool; 6] {
 
 /// Whether the others hold.
 pub(crate) fn hold(alloc: Global) -> [bool; 6] {
-    let named = (FrontendReq::SET_OWNER, 4, false, true);
+    let named = (HeardReq::SET_OWNER, 4, false, true);
     [
         three_served(alloc) == Some([true; 2]),
         went_on(alloc) == Some([true; 2]),

@@ -1,12 +1,12 @@
 //! What sessions answer where their links want to be asked again.
 
 use std::alloc::Global;
+use vhost_backend_req_handler::SessionCore;
 use vhost_device::VhostUserBackendReqHandlerMut;
 use vhost_frontend_core::{FrontendAnswer, FrontendCall, FrontendInternal};
 use vhost_link::{Cut, MemLink};
 use vhost_message::{Error, IoCause, Result as Answer};
 use vhost_promises::{Device, meets_fault, meets_fault_calling};
-use vhost_serving::SessionCore;
 
 /// SET_OWNER.
 static OWN: [u8; 12] = [3, 0, 0, 0, 1, 0, 0, 0, 0, 0, 0, 0];

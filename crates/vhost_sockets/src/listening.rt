@@ -1,7 +1,7 @@
 //! Where connections come from.
 
 use std::fs::Files;
-use vhost_endpoint::Listener;
+use vhost_connection::Listener;
 use vhost_link::UnixLink;
 use vhost_message::Result;
 

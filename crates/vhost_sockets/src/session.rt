@@ -1,14 +1,14 @@
 //! One session: a handler, until it ends.
 
 ghost use Rattle.std.specs.Prelude.{◌≡◌, Some, None, IfSome};
-ghost use Rattle.vhost_serving.specs.Sharing.{ServesShared, core_of};
+ghost use Rattle.vhost_backend_req_handler.specs.Sharing.{ServesShared, core_of};
 ghost use Rattle.vhost_sockets.specs.Session.{IsServed, ends};
 
 use std::sync::Wait;
+use vhost_backend_req_handler::{BackendReqHandler, Gate};
 use vhost_device::VhostUserBackendReqHandler;
 use vhost_link::Link;
 use vhost_message::{Error, Result};
-use vhost_serving::{BackendReqHandler, Gate};
 
 /// How many retries a message of a session may use.
 pub const BUDGET: u32 = 3;

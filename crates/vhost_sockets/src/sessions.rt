@@ -13,12 +13,12 @@ use std::sync::{Arc, Mutex, Wait};
 use std::thread::Threads;
 use std::time::Duration;
 use std::{io, thread};
+use vhost_backend_req_handler::{BackendReqHandler, Gate};
+use vhost_connection::Listener;
 use vhost_dummy_backend::DummyBackendReqHandler;
-use vhost_endpoint::Listener;
 use vhost_link::UnixLink;
 use vhost_message::Error;
 use vhost_protocol::Profile;
-use vhost_serving::{BackendReqHandler, Gate};
 
 type Handler<'a> = BackendReqHandler<SeenLink<'a>, Mutex<DummyBackendReqHandler<SeenLink<'a>>>>;
 

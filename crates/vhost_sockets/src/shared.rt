@@ -10,7 +10,7 @@ use std::sync::atomic::{AtomicBool, AtomicU64, Ordering};
 use std::sync::{Mutex, Wait};
 use std::thread::Parker;
 use std::time::Duration;
-use vhost_message::{Error, FrontendReq};
+use vhost_message::{Error, HeardReq};
 
 /// How many bytes of a line are written at once.
 const LINE: usize = 512;
@@ -169,7 +169,7 @@ impl<W: io::Write + Drop, E: io::Write + Drop> Sessions for Shared<W, E> {
         error: &Error,
     ) {
         let mut errors = self.errors.lock(rt);
-        let _ = match code.map(|code| (code, FrontendReq::try_from(code))) {
+        let _ = match code.map(|code| (code, HeardReq::try_from(code))) {
             None => writeln!(
                 errors,
                 "session {session}: request {request}, no header: {error:?}"

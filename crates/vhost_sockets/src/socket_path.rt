@@ -12,7 +12,7 @@ use std::net::Net;
 use std::os::unix::fs::{FileTypeExt, OpenOptionsExt};
 use std::os::unix::net::UnixListener;
 use std::{fmt, fs, io};
-use vhost_endpoint::Listener;
+use vhost_connection::Listener;
 use vhost_link::UnixLink;
 use vhost_message::Result as Answer;
 

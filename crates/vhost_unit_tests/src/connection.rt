@@ -1,15 +1,15 @@
-//! What a caller knows once it has let go of what an endpoint lent.
+//! What a caller knows once it has let go of what an endpoint lent, and where sending goes on.
 
 ghost use Rattle.std.specs.Prelude.{◌≡◌, None, OnOk};
-ghost use Rattle.vhost_endpoint.specs.State.{state};
+ghost use Rattle.vhost_connection.specs.State.{state};
 
 use std::alloc::Global;
-use vhost_endpoint::Endpoint;
+use vhost_connection::{Endpoint, get_sub_iovs_offset};
 use vhost_link::{Link, MemLink};
 use vhost_message::{FrontendReq, MsgHeader, Result, VhostUserMsgHeader};
 
 /// Receives eight bytes, and sends a header once it has looked at them.
-#[tactic(auto, unfolding(vhost_endpoint::specs::State::ahead_of))]
+#[tactic(auto, unfolding(vhost_connection::specs::State::ahead_of))]
 fn looks_and_sends<M: MsgHeader, L: Link>(end: &mut Endpoint<M, L>, header: &M) -> Result<u8>
     ensures sound { OnOk result ((state end.new).broken ≡ None) }
     ensures budget { OnOk result ((state end.new).budget ≡ (state end.old).budget) }
@@ -21,7 +21,7 @@ fn looks_and_sends<M: MsgHeader, L: Link>(end: &mut Endpoint<M, L>, header: &M) 
 }
 
 /// Puts another link in the place of the one below.
-#[tactic(auto, unfolding(vhost_endpoint::specs::State::ahead_of))]
+#[tactic(auto, unfolding(vhost_connection::specs::State::ahead_of))]
 fn relink<M: MsgHeader, L: Link>(end: &mut Endpoint<M, L>, link: L)
     ensures { state end.new ≡ record (state end.old) { link = link } }
 {
@@ -56,4 +56,16 @@ fn new_one_goes_on(alloc: Global) -> Option<(Option<u8>, usize)> {
 #[test]
 fn lends_and_goes_on(rt: HostRuntime) {
     assert!(rt; new_one_goes_on(rt.alloc()) == Some((Some(9), 12)));
+}
+
+/// Which of several pieces comes next where so many bytes of them went, and how many bytes of it went.
+#[test]
+fn goes_on_behind_what_went(rt: HostRuntime) {
+    let found = [
+        get_sub_iovs_offset(&[4, 4, 5], 6),
+        get_sub_iovs_offset(&[4, 4, 5], 8),
+        get_sub_iovs_offset(&[4, 4, 5], 13),
+        get_sub_iovs_offset(&[4], 9),
+    ];
+    assert!(rt; found == [(1, 2), (2, 0), (3, 0), (1, 5)]);
 }

@@ -1,7 +1,7 @@
 //! Calls of an endpoint: as they should go, and where the link ends, fails or wants retries.
 
 use std::alloc::Global;
-use vhost_endpoint::Endpoint;
+use vhost_connection::Endpoint;
 use vhost_link::{Cut, Kind, Link, MemLink, PlainHandle};
 use vhost_message::{
     Error, FrontendReq, IoCause, Result as Outcome, VhostUserMsgHeader, VhostUserU64,

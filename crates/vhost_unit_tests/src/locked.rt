@@ -4,12 +4,12 @@ ghost use Rattle.std.specs.Prelude.{⊤};
 
 use std::alloc::Global;
 use std::sync::{Arc, Mutex, Wait};
+use vhost_backend_req_handler::BackendReqHandler;
 use vhost_device::VhostUserBackendReqHandler;
 use vhost_dummy_backend::DummyBackendReqHandler;
 use vhost_frontend_req_handler::{FrontendReqHandler, VhostUserFrontendReqHandlerMut};
 use vhost_link::{Kind, MemLink, PlainHandle};
 use vhost_message::{Error, HandlerResult, VhostUserMMap, VhostUserSharedMsg};
-use vhost_serving::BackendReqHandler;
 
 /// The example device, over links in memory.
 type Device = DummyBackendReqHandler<MemLink>;

@@ -2,4 +2,5 @@
 
 mod errors;
 mod headers;
+mod known;
 mod numbers;

@@ -4,13 +4,13 @@ use std::alloc::Global;
 use std::sync::{Arc, Wait};
 use std::test::Fail;
 use std::thread::{Threads, join};
+use vhost_backend::VhostBackend;
+use vhost_backend_req_handler::SessionCore;
 use vhost_device::VhostUserBackendReqHandlerMut;
 use vhost_dummy_backend::DummyBackendReqHandler;
 use vhost_frontend::Frontend;
-use vhost_frontend_types::VhostBackend;
 use vhost_link::{Hub, Link, PlainHandle, SharedLink};
 use vhost_message::{Error, MAX_ATTACHED_FD_ENTRIES};
-use vhost_serving::SessionCore;
 
 /// How many retries a message may use: a ring is full until the other side has received.
 const BUDGET: u32 = u32::MAX;

@@ -1,6 +1,6 @@
 //! What calls of a backend answered, as a VMM sees it, in plain values.
 
-use vhost_frontend_types::{Error, Result};
+use vhost_backend::{Error, Result};
 use vhost_message::Error as ProtocolError;
 
 /// What a call answered.

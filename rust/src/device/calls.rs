@@ -11,7 +11,7 @@ use super::arrival::Arrival;
 use super::shared::{Shared, State};
 use super::{features_of, protocol_features_of, Device, MAX_QUEUE_SIZE, MAX_REGIONS, RING_PACKED};
 use crate::foreign::{Bell, Kick, PeerFd};
-use crate::queue::{DirtyLog, GuestAddress, GuestMemory, GuestRegion, InflightRegion};
+use crate::queue::{Change, DirtyLog, GuestAddress, GuestMemory, GuestRegion, InflightRegion};
 use crate::vhost_user::message::*;
 use crate::vhost_user::{Backend, Error, GpuBackend, Result, VhostUserBackendReqHandler};
 #[cfg(not(feature = "compat-0_17"))]
@@ -71,10 +71,10 @@ impl<D: Device> Calls<D> {
         GuestRegion::map_for(&self.shared.holder, about, file).map_err(failed)
     }
 
-    /// The session has this memory: where the last regions of it are mapped.
-    fn use_memory(&self, memory: GuestMemory, count: usize) -> Result<Vec<u64>> {
+    /// The session has this memory, by this change: where the last regions of it are mapped.
+    fn use_memory(&self, (memory, change): (GuestMemory, Change), count: usize) -> Result<Vec<u64>> {
         let regions = memory.regions().clone();
-        self.shared.lock().set_memory(memory).map_err(|error| failed(error.into()))?;
+        self.shared.lock().set_memory(memory, &change).map_err(|error| failed(error.into()))?;
         Ok(regions[regions.len() - count..].iter().map(|region| region.host()).collect())
     }
 
@@ -83,17 +83,17 @@ impl<D: Device> Calls<D> {
         let files: Vec<PeerFd> = files.into_iter().map(given).collect();
         let mapped: Result<Vec<_>> = table.iter().zip(&files).map(|(about, file)| self.map(about, file)).collect();
         let memory = GuestMemory::from_regions(mapped?).map_err(|error| failed(error.into()))?;
-        self.use_memory(memory, table.len())
+        self.use_memory((memory, Change::All), table.len())
     }
 
     fn add_region(&self, about: &VhostUserMemoryRegion, file: File) -> Result<u64> {
         let added = self.map(about, &given(file))?;
         let before = self.shared.lock().memory.clone();
-        let memory = match before {
-            Some(memory) => memory.insert_region(added),
-            None => GuestMemory::from_regions([added]),
+        let changed = match before {
+            Some(memory) => memory.with_region(added),
+            None => (GuestMemory::from_regions([added]).map_err(|error| failed(error.into()))?, Change::All),
         };
-        let bases = self.use_memory(memory.map_err(|error| failed(error.into()))?, 1)?;
+        let bases = self.use_memory(changed, 1)?;
         Ok(bases[0])
     }
 
@@ -244,8 +244,8 @@ impl<D: Device> VhostUserBackendReqHandler for Calls<D> {
     fn remove_mem_region(&self, region: &VhostUserSingleMemoryRegion) -> Result<()> {
         let memory = self.shared.lock().memory.clone().ok_or(Error::InvalidParam)?;
         let (start, user_addr, size) = (GuestAddress(region.guest_phys_addr), region.user_addr, region.memory_size);
-        let memory = memory.remove_region(start, user_addr, size).map_err(|error| failed(error.into()))?;
-        self.use_memory(memory, 0).map(drop)
+        let changed = memory.without_region(start, user_addr, size).map_err(|error| failed(error.into()))?;
+        self.use_memory(changed, 0).map(drop)
     }
 
     fn set_log_base(&self, log: &VhostUserLog, file: File) -> Result<()> {

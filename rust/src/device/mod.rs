@@ -35,12 +35,18 @@
 //! becomes zeros at its first touch, all of it, and the session ends with [`MemoryLost`](Ended::MemoryLost); the system's own calls
 //! (`preadv` and its like) fail there with EFAULT, and then nothing is lost. That costs nothing until it happens, but takes a handler of
 //! SIGBUS, which is there from the first mapping on and hands each other fault to the handler that was there before: install one of your
-//! own before that. Where a frontend begins postcopy, whoever touches a page that has not come waits for it until the frontend hangs up, or
+//! own before that. A thread that blocks SIGBUS ends the process in the place of all that: this package unblocks it where it touches guest
+//! memory, and a thread of the device's own that touches it by itself calls [`take_faults`](crate::queue::take_faults) first. Where a frontend begins postcopy, whoever touches a page that has not come waits for it until the frontend hangs up, or
 //! [`Stopper::stop`].
 //!
 //! *Threads*: [`Session::handle_events`] calls the device, one call at a time, and nothing else does. After it has told the end, and once a
 //! session is dropped, nothing is called. A request may be completed from any thread at any time, also then: what it points to stays
-//! mapped until that.
+//! mapped until that. A [`Taker`] takes from any thread.
+//!
+//! *Queues that are taken from*: a device that has something for its guest, as a frame that came, takes a buffer of a queue of
+//! [`Device::taken_queues`] for it then. One that kept such buffers would keep whoever stops the queue waiting: a guest that reboots, and
+//! with it its VMM. `examples/vsock.rs` is such a device. One that keeps requests of other queues for later, as until an event comes, is
+//! told by [`Device::stopping`].
 //!
 //! What differs from the kit in C: a request that is dropped is done, with nothing written; what needs a protocol feature is chosen by
 //! [`Device::protocol_features`], since a trait does not tell which of its calls are there; the backend channel comes as a
@@ -60,10 +66,12 @@ mod request;
 mod serving;
 mod session;
 mod shared;
+mod taker;
 
 pub use self::request::Request;
 pub use self::serving::{run, serve};
 pub use self::session::{Session, Stopper};
+pub use self::taker::Taker;
 
 /// VIRTIO_F_INDIRECT_DESC, which is offered in any case.
 pub const INDIRECT_DESC: u64 = 1 << 28;
@@ -82,6 +90,9 @@ pub const MAX_QUEUE_SIZE: u16 = 1024;
 pub const MAX_REGIONS: u64 = 509;
 
 /// A device. All but [`request`](Self::request) need not be there.
+///
+/// A thread of its own that touches guest memory otherwise than by this package, and blocks all signals as workers of daemons often do, has this
+/// line at its begin: `covretin::queue::take_faults();`. Without it a frontend that truncates its memory ends the process by SIGBUS.
 pub trait Device: Send + Sync {
     /// How many queues it has: 1 to [`MAX_QUEUES`].
     fn queues(&self) -> usize {
@@ -105,8 +116,21 @@ pub trait Device: Send + Sync {
         Duration::ZERO
     }
 
+    /// Queues whose requests are not handed out, a bit for each from the first on: the device takes them, by a [`Taker`], once it has something
+    /// for them, as a network card that has a frame. So it has none meanwhile, and whoever stops such a queue is not waited for.
+    fn taken_queues(&self) -> u64 {
+        0
+    }
+
     /// A request is the device's.
     fn request(&self, request: Request);
+
+    /// A queue of `taken_queues` has requests: for the first time since it was started, or since the device wanted one and found none.
+    fn available(&self, _queue: usize, _taker: &Taker) {}
+
+    /// A queue that was started stops now: its ring, the device or the session ends. Nothing more is taken of it. Whoever stops it waits
+    /// until its requests are done, and so does the next frontend: a device that keeps some for later completes or drops them here.
+    fn stopping(&self, _queue: usize) {}
 
     /// The driver accepted these virtio features; and these protocol features were accepted so far.
     fn accepted(&self, _features: u64, _protocol_features: VhostUserProtocolFeatures) {}
@@ -151,8 +175,17 @@ impl<D: Device + ?Sized> Device for Arc<D> {
     fn busy_poll(&self) -> Duration {
         (**self).busy_poll()
     }
+    fn taken_queues(&self) -> u64 {
+        (**self).taken_queues()
+    }
     fn request(&self, request: Request) {
         (**self).request(request)
+    }
+    fn available(&self, queue: usize, taker: &Taker) {
+        (**self).available(queue, taker)
+    }
+    fn stopping(&self, queue: usize) {
+        (**self).stopping(queue)
     }
     fn accepted(&self, features: u64, protocol_features: VhostUserProtocolFeatures) {
         (**self).accepted(features, protocol_features)

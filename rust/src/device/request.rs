@@ -4,6 +4,7 @@ use std::ops::{Deref, DerefMut};
 use std::sync::Arc;
 
 use super::shared::Shared;
+use super::Taker;
 use crate::queue::DescriptorChain;
 
 /// A request of the guest: its parts, as the [`DescriptorChain`] that it is. It is the device's until [`complete`](Self::complete), from
@@ -23,6 +24,11 @@ impl Request {
     /// Of which queue it is, from 0 on.
     pub fn queue(&self) -> usize {
         self.queue
+    }
+
+    /// By what the device takes others, of the queues that it takes from.
+    pub fn taker(&self) -> Taker {
+        Taker::of(&self.shared)
     }
 
     /// The request is done, and so many bytes were written, from the first that is to be written on: the driver is told. Where the session

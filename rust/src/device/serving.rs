@@ -9,7 +9,7 @@ use std::path::Path;
 use std::sync::Arc;
 
 use super::{Device, Session};
-use crate::foreign::{poll, Ringer, SignalFd};
+use crate::foreign::{poll, SignalFd};
 use crate::vhost_user::{Error, Listener};
 
 /// Listens at a path, and serves one frontend after another until SIGTERM or SIGINT comes, which are blocked meanwhile in this thread: threads
@@ -41,7 +41,6 @@ pub fn serve(listener: &Listener, device: impl Device) -> io::Result<()> {
 
 fn serve_until<D: Device>(listener: &Listener, device: &Arc<D>, signals: RawFd) -> io::Result<()> {
     listener.set_nonblocking(true)?;
-    let _ringer = Ringer::shared()?; // (from one frontend to the next)
     loop {
         let ready = poll(&[(listener.as_raw_fd(), libc::POLLIN), (signals, libc::POLLIN)], -1)?;
         if ready[1] != 0 {

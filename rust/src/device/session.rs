@@ -4,19 +4,21 @@ use std::io;
 use std::os::unix::io::{AsRawFd, RawFd};
 use std::os::unix::net::UnixStream;
 use std::sync::atomic::Ordering;
-use std::sync::Arc;
-use std::time::Duration;
+use std::sync::{Arc, MutexGuard};
+use std::time::{Duration, Instant};
 
 use super::calls::Calls;
-use super::shared::{Shared, Stop, SOCKET, STOP, TIMER, WAKE};
-use super::{Device, Ended, Request, MAX_QUEUES};
-use crate::foreign::Watch;
+use super::shared::{Shared, State, Stop, SOCKET, STOP, TIMER, WAKE};
+use super::{Device, Ended, Request, Taker, MAX_QUEUES};
+use crate::foreign::{unblock_faults, Watch};
 use crate::queue;
 use crate::vhost_user::message::FrontendReq;
 use crate::vhost_user::{BackendReqHandler, Error, Listener};
 
-/// How many calls of a frontend are served before its rings are.
+/// How many calls of a frontend are served before its rings are, and for how long; and how long its rings are then: whoever serves several
+/// sessions serves another after that.
 const MOST_CALLS: usize = 256;
+const TURN: Duration = Duration::from_millis(1);
 /// How often rings that are looked at are served before all else has its turn.
 const MOST_TURNS: usize = 16;
 /// How often a ring without a kick is looked at.
@@ -32,6 +34,8 @@ pub struct Session<D: Device> {
     is_called: bool,
     /// A call that is answered once requests are done.
     waits: Option<u32>,
+    /// The ring that is served first, since time was over before.
+    first_ring: usize,
     ended: Option<Arc<Ended>>,
 }
 
@@ -71,14 +75,19 @@ impl<D: Device> Session<D> {
         if !(1..=MAX_QUEUES).contains(&queues) {
             return Err(io::ErrorKind::InvalidInput.into());
         }
-        let shared = Arc::new(Shared::new(queues)?);
+        let shared = Arc::new(Shared::new(queues, device.taken_queues())?);
         socket.set_nonblocking(true)?;
         let frontend = socket.try_clone()?;
         let mut handler =
             BackendReqHandler::from_stream(socket, Arc::new(Calls::new(device.clone(), shared.clone(), frontend, signals)));
         handler.set_reply_timeout(Some(Duration::ZERO));
         shared.polled.add(&handler, SOCKET)?;
-        Ok(Session { device, shared, handler: Some(handler), is_called: true, waits: None, ended: None })
+        Ok(Session { device, shared, handler: Some(handler), is_called: true, waits: None, first_ring: 0, ended: None })
+    }
+
+    /// By what requests of its queues are taken.
+    pub fn taker(&self) -> Taker {
+        Taker::of(&self.shared)
     }
 
     /// By what it is stopped.
@@ -90,16 +99,18 @@ impl<D: Device> Session<D> {
     /// ended for this reason, which each further call returns, too. The frontend is hung up on at once; where the device has requests, the
     /// end is told once they are done, so that the next frontend finds nothing under way.
     pub fn handle_events(&mut self) -> Option<&Ended> {
+        unblock_faults();
+        let end = Instant::now() + TURN;
         self.serve_what_is_ready();
         for _ in 1..MOST_TURNS {
-            if self.has_ended() || !self.busy_poll() {
+            if self.has_ended() || Instant::now() >= end || !self.busy_poll() {
                 break;
             }
             self.serve_what_is_ready();
         }
         if self.handler.is_some() {
             match self.has_ended() {
-                true => self.give_up(),
+                true => self.give_up_and_tell(),
                 false => self.plan(),
             }
         }
@@ -116,9 +127,13 @@ impl<D: Device> Session<D> {
         if self.is_called || self.waits.is_some() {
             self.serve_calls();
         }
-        let queues = self.shared.lock().rings.len();
-        for index in 0..queues {
-            self.serve_ring(index);
+        let (end, queues) = (Instant::now() + TURN, self.shared.lock().rings.len());
+        let first = std::mem::take(&mut self.first_ring);
+        for index in (first..queues).chain(0..first) {
+            if self.serve_ring(index, end) && Instant::now() >= end {
+                self.first_ring = (index + 1) % queues;
+                return;
+            }
         }
     }
 
@@ -174,8 +189,9 @@ impl<D: Device> Session<D> {
 
     /// Serves the calls that are there, but for those of one that sends without end: rings are served in between.
     fn serve_calls(&mut self) {
+        let end = Instant::now() + TURN;
         for _ in 0..MOST_CALLS {
-            if self.has_ended() || !self.serve_call() {
+            if self.has_ended() || !self.serve_call() || Instant::now() >= end {
                 return;
             }
         }
@@ -196,7 +212,7 @@ impl<D: Device> Session<D> {
             call => call,
         };
         let answered = match call {
-            Ok(call) if has_to_wait(&self.shared, handler, call) => {
+            Ok(call) if has_to_wait(&*self.device, &self.shared, handler, call) => {
                 self.shared.polled.look_for(handler, SOCKET, false);
                 self.waits = Some(call);
                 return false;
@@ -230,18 +246,34 @@ impl<D: Device> Session<D> {
 
     // -- Rings --
 
-    /// Hands the requests that are there to the device, but for those of a driver that makes more without end: then the ring is still due.
-    fn serve_ring(&self, index: usize) {
-        let size = {
-            let ring = &mut self.shared.lock().rings[index];
-            if !std::mem::take(&mut ring.is_due) {
-                return;
+    /// Hands the requests that are there to the device, but for those of a driver that makes more without end: then the ring is still due. Of a
+    /// queue that is taken from it tells that there are some. Whether it was due.
+    fn serve_ring(&self, index: usize, end: Instant) -> bool {
+        let mut state = self.shared.lock();
+        let ring = &mut state.rings[index];
+        if !std::mem::take(&mut ring.is_due) {
+            return false;
+        }
+        let (size, broken_by) = (ring.queue.size(), ring.broken_by.take());
+        match broken_by {
+            Some(error) => self.tell_broken(state, index, error),
+            None if ring.is_taken_of => self.tell_available(state, index),
+            None => {
+                drop(state);
+                self.serve_requests(index, size, end);
             }
-            ring.queue.size()
-        };
+        }
+        true
+    }
+
+    /// Hands out as many requests as the ring has room for, and one more, until that time.
+    fn serve_requests(&self, index: usize, size: u16, end: Instant) {
         for _ in 0..=size {
             if !self.serve_request(index) {
                 return;
+            }
+            if Instant::now() >= end {
+                break;
             }
         }
         self.shared.lock().rings[index].is_due = true;
@@ -262,17 +294,14 @@ impl<D: Device> Session<D> {
             Ok(None) => state.empty(index, self.device.busy_poll()),
             Ok(Some(chain)) => {
                 // (before the device, which may be done with it at once)
-                state.rings[index].out += 1;
-                state.out += 1;
+                state.count_out(index);
                 drop(state);
                 self.device.request(Request::new(chain, self.shared.clone(), index));
                 true
             }
             Err(error) => {
                 state.rings[index].is_broken = true;
-                self.shared.signal(&state.rings[index].error);
-                drop(state);
-                self.tell_broken(index, error);
+                self.tell_broken(state, index, error);
                 false
             }
         }
@@ -308,11 +337,25 @@ impl<D: Device> Session<D> {
         }
     }
 
-    fn tell_broken(&self, index: usize, error: queue::Error) {
-        if error == queue::Error::OutOfMemory {
-            return self.end(Ended::OutOfMemory);
+    fn tell_broken(&self, mut state: MutexGuard<'_, State>, index: usize, error: queue::Error) {
+        if self.shared.has_ended(&mut state) {
+            return;
         }
+        self.shared.signal(&state.rings[index].error);
+        if error == queue::Error::OutOfMemory {
+            return state.end(Ended::OutOfMemory);
+        }
+        drop(state);
         self.device.broken(index, error);
+    }
+
+    fn tell_available(&self, mut state: MutexGuard<'_, State>, index: usize) {
+        let has_some = !self.shared.has_ended(&mut state) && state.take_wanted(index);
+        let is_lost = self.shared.holder.has_lost();
+        drop(state);
+        if has_some && !is_lost {
+            self.device.available(index, &self.taker());
+        }
     }
 
     /// What is due still is served by the next call; a ring without a kick is looked at from time to time.
@@ -331,6 +374,13 @@ impl<D: Device> Session<D> {
     }
 
     // -- The end --
+
+    /// The same, and the device is told of each queue that stops by that: nobody waits for it, but the next frontend does.
+    fn give_up_and_tell(&mut self) {
+        let stopped = self.shared.lock().begin_stop(0..MAX_QUEUES);
+        self.give_up();
+        stopped.into_iter().for_each(|index| self.device.stopping(index));
+    }
 
     /// All that the frontend gave is given up, but for what requests still point to.
     fn give_up(&mut self) {
@@ -380,19 +430,16 @@ impl<D: Device> Drop for Session<D> {
     }
 }
 
-/// Whether a call that stops rings has to wait for requests of theirs. Nothing more is taken meanwhile.
-fn has_to_wait<D: Device>(shared: &Shared, handler: &mut BackendReqHandler<Calls<D>>, call: u32) -> bool {
+/// Whether a call that stops rings has to wait for requests of theirs. Nothing more is taken meanwhile, and the device is told.
+fn has_to_wait<D: Device>(device: &D, shared: &Shared, handler: &mut BackendReqHandler<Calls<D>>, call: u32) -> bool {
     let stopped = match FrontendReq::try_from(call) {
         Ok(FrontendReq::GET_VRING_BASE) => handler.ring_of_call().map_or(0..0, |index| index as usize..index as usize + 1),
         Ok(FrontendReq::RESET_DEVICE | FrontendReq::RESET_OWNER) => 0..MAX_QUEUES,
         _ => return false,
     };
+    let begun = shared.lock().begin_stop(stopped.clone());
+    begun.into_iter().for_each(|index| device.stopping(index));
     let mut state = shared.lock();
-    let mut is_out = false;
-    for (_, ring) in state.rings.iter_mut().enumerate().filter(|(index, _)| stopped.contains(index)) {
-        ring.is_ending = true;
-        is_out |= ring.out != 0;
-    }
-    state.waits = is_out;
-    is_out
+    state.waits = state.rings.iter().enumerate().any(|(index, ring)| stopped.contains(&index) && ring.out != 0);
+    state.waits
 }

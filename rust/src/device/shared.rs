@@ -8,7 +8,7 @@ use std::time::{Duration, Instant};
 use super::arrival::Arrival;
 use super::{Ended, EVENT_IDX, INDIRECT_DESC, MAX_QUEUE_SIZE, RING_PACKED};
 use crate::foreign::{Bell, Event, Holder, Kick, Polled, Ringer, Timer, Watch};
-use crate::queue::{DescriptorChain, DirtyLog, Error, GuestAddress, GuestMemory, InflightRegion, Queue};
+use crate::queue::{Change, DescriptorChain, DirtyLog, Error, GuestAddress, GuestMemory, InflightRegion, Queue};
 use crate::vhost_user::message::VhostUserVirtioFeatures;
 use crate::vhost_user::Backend;
 
@@ -45,6 +45,12 @@ pub(super) struct Ring {
     pub(super) is_ending: bool,
     /// The driver broke a rule, or the kick can't be read.
     pub(super) is_broken: bool,
+    /// The device takes from it.
+    pub(super) is_taken_of: bool,
+    /// Then: it found nothing, and is told once there is something.
+    pub(super) is_wanted: bool,
+    /// The rule that the driver broke where the device took, as long as nobody told.
+    pub(super) broken_by: Option<Error>,
     /// It is to be looked at.
     pub(super) is_due: bool,
     /// It is empty, and looked at by this before its driver is asked to tell of more.
@@ -76,8 +82,9 @@ pub(super) struct State {
 }
 
 impl Shared {
-    pub(super) fn new(queues: usize) -> io::Result<Shared> {
-        let ring = || {
+    /// With so many queues, of which the device takes from these, a bit for each.
+    pub(super) fn new(queues: usize, taken_queues: u64) -> io::Result<Shared> {
+        let ring = |index: usize| {
             Ok(Ring {
                 queue: Queue::new(MAX_QUEUE_SIZE)?,
                 log_addr: None,
@@ -87,6 +94,9 @@ impl Shared {
                 is_enabled: false,
                 is_ending: false,
                 is_broken: false,
+                is_taken_of: taken_queues >> index & 1 != 0,
+                is_wanted: false,
+                broken_by: None,
                 is_due: false,
                 watch: None,
                 is_quick: false,
@@ -95,7 +105,7 @@ impl Shared {
             })
         };
         let state = State {
-            rings: (0..queues).map(|_| ring()).collect::<Result<_, Error>>()?,
+            rings: (0..queues).map(ring).collect::<Result<_, Error>>()?,
             features: 0,
             protocol_features: 0,
             memory: None,
@@ -132,6 +142,25 @@ impl Shared {
         state.why.is_some()
     }
 
+    /// Takes the next request of a queue that the device takes from. None: there is none, or none to be taken.
+    pub(super) fn take(&self, index: usize) -> Option<DescriptorChain> {
+        let mut state = self.lock();
+        if !state.rings.get(index)?.is_taken_of || self.has_ended(&mut state) {
+            return None;
+        }
+        let taken = state.take(index);
+        if self.holder.has_lost() {
+            return None; // what was read may be zeros that nobody wrote
+        }
+        if state.rings[index].broken_by.is_some() {
+            self.holder.wake(); // nothing is called back from here
+        }
+        if taken.is_some() {
+            state.count_out(index);
+        }
+        taken
+    }
+
     /// Gives a request back, of which so many bytes were written. Where the session has ended meanwhile nobody is told.
     pub(super) fn complete(&self, index: usize, chain: &DescriptorChain, written: u32) {
         let mut state = self.lock();
@@ -163,6 +192,7 @@ impl Shared {
         self.set_kick(ring, None);
         ring.call = None;
         (ring.is_due, ring.is_ending, ring.is_broken, ring.watch) = (false, false, false, None);
+        ring.broken_by = None;
         let _ = ring.queue.set_ready(false);
     }
 }
@@ -181,6 +211,48 @@ impl State {
             && !ring.is_ending
             && !ring.is_broken
             && (ring.is_enabled || !has_to_be_enabled)
+    }
+
+    /// The device has one more request of a ring.
+    pub(super) fn count_out(&mut self, index: usize) {
+        self.rings[index].out += 1;
+        self.out += 1;
+    }
+
+    /// Takes the next request of a ring; where there is none its driver tells of more.
+    fn take(&mut self, index: usize) -> Option<DescriptorChain> {
+        let is_running = self.is_running(index);
+        let ring = &mut self.rings[index];
+        let taken = if is_running { ring.queue.pop_or_ask() } else { Ok(None) };
+        match taken {
+            Ok(None) => ring.is_wanted = true,
+            Ok(_) => {}
+            Err(error) => (ring.is_broken, ring.is_due, ring.broken_by) = (true, true, Some(error)),
+        }
+        taken.unwrap_or(None)
+    }
+
+    /// Whether the device wanted a request of a ring, which has some now. It is told once: the driver need not tell of more until then.
+    pub(super) fn take_wanted(&mut self, index: usize) -> bool {
+        let is_running = self.is_running(index);
+        let ring = &mut self.rings[index];
+        let has_some = is_running && ring.is_wanted && ring.queue.enable_notification() == Ok(true);
+        if has_some {
+            let _ = ring.queue.disable_notification();
+            ring.is_wanted = false;
+        }
+        has_some
+    }
+
+    /// The rings that are to be stopped, of these, and have not been told of. Nothing more is taken of them.
+    pub(super) fn begin_stop(&mut self, indexes: std::ops::Range<usize>) -> Vec<usize> {
+        let mut begun = Vec::new();
+        for (index, ring) in self.rings.iter_mut().enumerate().filter(|(index, _)| indexes.contains(index)) {
+            if ring.queue.ready() && !std::mem::replace(&mut ring.is_ending, true) {
+                begun.push(index);
+            }
+        }
+        begun
     }
 
     /// A ring was kicked, which is looked at for so long when it is empty.
@@ -217,7 +289,7 @@ impl State {
             Some(region) => ring.queue.start_with(region, index)?,
             None => ring.queue.set_ready(true)?,
         }
-        (ring.is_due, ring.is_broken, ring.is_ending) = (true, false, false);
+        (ring.is_due, ring.is_broken, ring.is_ending, ring.is_wanted) = (true, false, false, true);
         self.set_log(index);
         Ok(())
     }
@@ -229,12 +301,15 @@ impl State {
         ring.queue.set_log(self.log.clone().filter(|_| is_logged), ring.log_addr);
     }
 
-    /// The session has this memory, in the place of what it had. A ring that lies in none of it is left alone until it does. An error: it can't
-    /// be, and nothing changed.
-    pub(super) fn set_memory(&mut self, memory: GuestMemory) -> Result<(), Error> {
-        for ring in &mut self.rings {
-            if let Err(error) = ring.queue.set_memory(&memory) {
-                self.end(Ended::OutOfMemory);
+    /// The session has this memory, which changes so what it had. A ring that lies in none of it is left alone until it does. An error: it
+    /// can't be, and nothing changed; or the session ends by it.
+    pub(super) fn set_memory(&mut self, memory: GuestMemory, change: &Change) -> Result<(), Error> {
+        for (index, ring) in self.rings.iter_mut().enumerate() {
+            if let Err(error) = ring.queue.change_memory(&memory, change) {
+                // (what one queue takes, each other does, but for want of memory)
+                if index != 0 || error == Error::OutOfMemory {
+                    self.end(Ended::OutOfMemory);
+                }
                 return Err(error);
             }
             ring.is_due = ring.queue.ready();

@@ -61,6 +61,7 @@ records! {
 
 impl Asks for Owning<ChannelSession> {
     type Session = ChannelSession;
+    const REPLY_BODY: Option<usize> = Some(8);
 
     fn owning(&mut self) -> &mut Owning<ChannelSession> {
         self

@@ -273,35 +273,39 @@ const RESFD: u32 = 1;
 /// of its AIO that ends and names one. So what is requested is to read nothing, of an empty file.
 pub(crate) struct Ringer {
     requests: libc::c_ulong,
+    /// Whose it is: a child of `fork` has no requests of its parent's.
+    process: u32,
     empty: File,
     /// Who has a request under way: there is room for one.
     ringing: Mutex<()>,
 }
 
 impl Ringer {
-    /// The one of this process, which is there as long as anybody has it: the kernel takes a while to end one.
+    /// The one of this process.
     pub(crate) fn shared() -> io::Result<Arc<Ringer>> {
         static SHARED: Mutex<Option<Weak<Ringer>>> = Mutex::new(None);
         let mut shared = SHARED.lock().unwrap_or_else(PoisonError::into_inner);
-        if let Some(ringer) = shared.as_ref().and_then(Weak::upgrade) {
-            return Ok(ringer);
-        }
-        let ringer = Arc::new(Ringer::new()?);
-        *shared = Some(Arc::downgrade(&ringer));
-        Ok(ringer)
-    }
-
-    fn new() -> io::Result<Ringer> {
-        let empty = memory_file()?;
-        let mut requests: libc::c_ulong = 0;
-        // SAFETY: it writes one number, the one that it is lent.
-        match unsafe { libc::syscall(libc::SYS_io_setup, 1 as libc::c_uint, addr_of_mut!(requests)) } {
-            0 => Ok(Ringer { requests, empty, ringing: Mutex::new(()) }),
-            _ => Err(io::Error::last_os_error()),
+        let process = std::process::id();
+        match shared.as_ref().and_then(Weak::upgrade) {
+            Some(ringer) if ringer.process == process => Ok(ringer),
+            _ => {
+                let (requests, empty) = (requests_of(process)?, memory_file()?);
+                let ringer = Arc::new(Ringer { requests, process, empty, ringing: Mutex::new(()) });
+                *shared = Some(Arc::downgrade(&ringer));
+                Ok(ringer)
+            }
         }
     }
 
     fn ring(&self, eventfd: &PeerFd) {
+        if !self.request(eventfd) && std::process::id() != self.process {
+            // (a session of the parent's, in a child)
+            let _ = Ringer::shared().map(|own| own.request(eventfd));
+        }
+    }
+
+    /// Whether it was signalled.
+    fn request(&self, eventfd: &PeerFd) -> bool {
         let _alone = self.ringing.lock().unwrap_or_else(PoisonError::into_inner);
         let mut request = AioRequest {
             opcode: PREAD,
@@ -317,17 +321,30 @@ impl Ringer {
         // SAFETY: a list of one request, and room for the `struct io_event` of one that has ended, borrowed for the calls; a read of
         // nothing has ended when it was submitted, and has no buffer.
         unsafe {
-            if libc::syscall(libc::SYS_io_submit, self.requests, one, list.as_mut_ptr()) == 1 {
+            let is_submitted = libc::syscall(libc::SYS_io_submit, self.requests, one, list.as_mut_ptr()) == 1;
+            if is_submitted {
                 libc::syscall(libc::SYS_io_getevents, self.requests, one, one, ended.as_mut_ptr(), addr_of_mut!(at_once));
             }
+            is_submitted
         }
     }
 }
 
-impl Drop for Ringer {
-    fn drop(&mut self) {
-        // SAFETY: it is this one's, and no request is under way.
-        unsafe { libc::syscall(libc::SYS_io_destroy, self.requests) };
+/// Room for one request of the kernel's AIO in this process, which is made once and ends with that: the kernel waits where one is ended.
+fn requests_of(process: u32) -> io::Result<libc::c_ulong> {
+    static MADE: Mutex<Option<(u32, libc::c_ulong)>> = Mutex::new(None);
+    let mut made = MADE.lock().unwrap_or_else(PoisonError::into_inner);
+    if let Some((_, requests)) = made.filter(|(of, _)| *of == process) {
+        return Ok(requests);
+    }
+    let mut requests: libc::c_ulong = 0;
+    // SAFETY: it writes one number, the one that it is lent.
+    match unsafe { libc::syscall(libc::SYS_io_setup, 1 as libc::c_uint, addr_of_mut!(requests)) } {
+        0 => {
+            *made = Some((process, requests));
+            Ok(requests)
+        }
+        _ => Err(io::Error::last_os_error()),
     }
 }
 

@@ -2,29 +2,35 @@
 //! Guest memory that its frontend can take away while it is used here: it shortens the file, or the file's pages cannot be had. Then SIGBUS
 //! would end the process. In its place the whole mapping becomes zeros, which the frontend does not see, and its holder is told. That takes
 //! a handler of the process, which is there from the first mapping on, and hands each other fault to the one that was there before.
+use std::cell::Cell;
+use std::iter::successors;
 use std::mem::{transmute, zeroed};
 use std::os::unix::io::{AsRawFd, RawFd};
 use std::ptr::{self, null_mut};
 use std::sync::atomic::{AtomicBool, AtomicPtr, AtomicUsize, Ordering};
-use std::sync::{Arc, Mutex, Once, PoisonError};
+use std::sync::{Arc, Mutex, MutexGuard, Once, PoisonError};
 
 use super::events::{memory_file, Event};
 use super::userfault::wake_range;
 
-/// The greatest number of mappings of a process.
-const MOST: usize = 4096;
+/// The greatest number of mappings of a holder, as a session: what it has, and what requests still point to that it had. So none takes what
+/// the system lets the process map from another.
+const MOST: usize = 1024;
+/// How many places are made at once.
+const MADE: usize = 256;
 
 /// Who maps memory, and hears that some of it is lost.
 #[derive(Default)]
 pub(crate) struct Holder {
     has_lost: AtomicBool,
     wake: Option<Event>,
+    mappings: AtomicUsize,
 }
 
 impl Holder {
     /// One that is woken then.
     pub(crate) fn woken_by(wake: Event) -> Holder {
-        Holder { has_lost: AtomicBool::new(false), wake: Some(wake) }
+        Holder { wake: Some(wake), ..Holder::default() }
     }
 
     pub(crate) fn has_lost(&self) -> bool {
@@ -58,28 +64,44 @@ pub(super) struct Place {
 
 #[allow(clippy::declare_interior_mutable_const)] // each element is one of its own
 const NONE: Place = Place { at: AtomicUsize::new(0), size: AtomicUsize::new(0), holder: AtomicPtr::new(null_mut()) };
-static PLACES: [Place; MOST] = [NONE; MOST];
-/// Who adds or removes a mapping, so that one that is there stays meanwhile.
-static CHANGING: Mutex<()> = Mutex::new(());
+
+/// Places that were made at once, and those that were made before. They stay, since a handler may look at them at any time.
+struct Places {
+    places: [Place; MADE],
+    before: Option<&'static Places>,
+}
+
+static LAST: AtomicPtr<Places> = AtomicPtr::new(null_mut());
+/// The places that are free. Who adds or removes a mapping has them, so that one that is there stays meanwhile.
+static FREE: Mutex<Vec<&'static Place>> = Mutex::new(Vec::new());
 static HANDLING: Once = Once::new();
 /// What SIGBUS did before.
 static EARLIER: AtomicPtr<libc::sigaction> = AtomicPtr::new(null_mut());
 
 impl Place {
-    /// Guards a mapping until `leave`, which comes before it is unmapped, and before the holder is let go of. None: there are too many.
+    /// Guards a mapping until `leave`, which comes before it is unmapped, and before the holder is let go of. None: it has too many.
     pub(super) fn take(at: usize, size: usize, holder: &Arc<Holder>) -> Option<&'static Place> {
         HANDLING.call_once(handle);
-        let _alone = CHANGING.lock().unwrap_or_else(PoisonError::into_inner);
-        let place = PLACES.iter().find(|place| place.at.load(Ordering::SeqCst) == 0)?;
+        if holder.mappings.fetch_add(1, Ordering::SeqCst) >= MOST {
+            holder.mappings.fetch_sub(1, Ordering::SeqCst);
+            return None;
+        }
+        let mut free = free_places();
+        if free.is_empty() {
+            free.extend(more_places());
+        }
+        let place = free.pop()?;
         place.size.store(size, Ordering::SeqCst);
         place.holder.store(Arc::as_ptr(holder) as *mut Holder, Ordering::SeqCst);
         place.at.store(at, Ordering::SeqCst);
         Some(place)
     }
 
-    pub(super) fn leave(&self) {
-        let _alone = CHANGING.lock().unwrap_or_else(PoisonError::into_inner);
+    pub(super) fn leave(&'static self, holder: &Holder) {
+        let mut free = free_places();
         self.at.store(0, Ordering::SeqCst);
+        free.push(self);
+        holder.mappings.fetch_sub(1, Ordering::SeqCst);
     }
 
     /// Where it is a mapping that has this address, that is lost. Whether it is.
@@ -96,6 +118,48 @@ impl Place {
             let flags = libc::MAP_PRIVATE | libc::MAP_ANONYMOUS | libc::MAP_NORESERVE | libc::MAP_FIXED;
             libc::mmap(at as *mut libc::c_void, size, libc::PROT_READ | libc::PROT_WRITE, flags, -1, 0) != libc::MAP_FAILED
         }
+    }
+}
+
+fn free_places() -> MutexGuard<'static, Vec<&'static Place>> {
+    FREE.lock().unwrap_or_else(PoisonError::into_inner)
+}
+
+/// Makes more of them, by who has the free ones.
+fn more_places() -> &'static [Place] {
+    let made: &'static Places = Box::leak(Box::new(Places { places: [NONE; MADE], before: all_places().next() }));
+    LAST.store(made as *const Places as *mut Places, Ordering::SeqCst);
+    &made.places
+}
+
+/// All that were made, the last ones first.
+fn all_places() -> impl Iterator<Item = &'static Places> {
+    // SAFETY: it is null, or what `more_places` made, which stays, and is only read.
+    let last = unsafe { LAST.load(Ordering::SeqCst).as_ref() };
+    successors(last, |it| it.before)
+}
+
+thread_local! {
+    static TAKES_FAULTS: Cell<bool> = const { Cell::new(false) };
+}
+
+/// Has this thread take SIGBUS, once. Where a thread blocks it the system ends the process in the place of calling the handler.
+#[inline]
+pub(crate) fn take_faults() {
+    if !TAKES_FAULTS.with(|it| it.replace(true)) {
+        unblock_faults();
+    }
+}
+
+/// The same, also where the thread blocked it since.
+#[cold]
+pub(crate) fn unblock_faults() {
+    // SAFETY: the set is made empty before it is used, and borrowed by these calls alone.
+    unsafe {
+        let mut set: libc::sigset_t = zeroed();
+        libc::sigemptyset(&mut set);
+        libc::sigaddset(&mut set, libc::SIGBUS);
+        libc::pthread_sigmask(libc::SIG_UNBLOCK, &set, null_mut());
     }
 }
 
@@ -119,7 +183,7 @@ extern "C" fn take_fault(signal: libc::c_int, fault: *mut libc::siginfo_t, conte
     unsafe {
         let was = *libc::__errno_location();
         let at = (*fault).si_addr() as usize;
-        if (*fault).si_code <= 0 || !PLACES.iter().any(|place| place.loses(at)) {
+        if (*fault).si_code <= 0 || !all_places().any(|it| it.places.iter().any(|place| place.loses(at))) {
             hand_on(signal, fault, context);
         }
         *libc::__errno_location() = was;
@@ -158,8 +222,8 @@ pub(crate) fn lose_all(holder: &Arc<Holder>, userfault: RawFd) {
         Ok(empty) => empty,
         Err(_) => return,
     };
-    let _alone = CHANGING.lock().unwrap_or_else(PoisonError::into_inner);
-    for place in &PLACES {
+    let _alone = free_places();
+    for place in all_places().flat_map(|it| &it.places) {
         let (at, size) = (place.at.load(Ordering::SeqCst), place.size.load(Ordering::SeqCst));
         if at == 0 || !ptr::eq(place.holder.load(Ordering::SeqCst), Arc::as_ptr(holder)) {
             continue;

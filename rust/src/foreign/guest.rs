@@ -10,7 +10,7 @@ use std::ptr::null_mut;
 use std::sync::atomic::{AtomicBool, AtomicU16, AtomicU32, AtomicU64, AtomicU8, Ordering};
 use std::sync::Arc;
 
-use super::guard::{Holder, Place};
+use super::guard::{take_faults, Holder, Place};
 use crate::queue::Error;
 
 /// The number of hugetlbfs, of `linux/magic.h`.
@@ -85,6 +85,7 @@ impl Mapping {
     /// So many bytes from there on, which have to be its own.
     fn at<T>(&self, offset: usize, count: usize) -> *mut T {
         assert!(offset <= self.size && count <= self.size - offset);
+        take_faults();
         (self.all + self.into + offset) as *mut T
     }
 
@@ -98,10 +99,27 @@ impl Mapping {
         unsafe { &*self.at::<AtomicU8>(offset, 1) }.store(value, Ordering::Release)
     }
 
-    /// Sets these bits of a byte.
+    /// Sets these bits of a byte. (what is set already is not written: a barrier has to stand between it and what it tells of)
     pub(crate) fn set_bits(&self, offset: usize, mask: u8) {
         // SAFETY: as above.
-        unsafe { &*self.at::<AtomicU8>(offset, 1) }.fetch_or(mask, Ordering::SeqCst);
+        let byte = unsafe { &*self.at::<AtomicU8>(offset, 1) };
+        if byte.load(Ordering::SeqCst) & mask != mask {
+            byte.fetch_or(mask, Ordering::SeqCst);
+        }
+    }
+
+    /// Sets all bits of the eight bytes there, likewise. Whether it can: not where they are not aligned.
+    pub(crate) fn set_word(&self, offset: usize) -> bool {
+        let at = self.at::<AtomicU64>(offset, 8);
+        if at as usize % 8 != 0 {
+            return false;
+        }
+        // SAFETY: these are bytes of the mapping, aligned, and any will do.
+        let word = unsafe { &*at };
+        if word.load(Ordering::SeqCst) != u64::MAX {
+            word.store(u64::MAX, Ordering::SeqCst);
+        }
+        true
     }
 
     pub(crate) fn load16(&self, offset: usize) -> u16 {
@@ -148,7 +166,7 @@ impl Mapping {
 
 impl Drop for Mapping {
     fn drop(&mut self) {
-        self.place.leave();
+        self.place.leave(&self.holder);
         // SAFETY: it was mapped by `new`, and nobody has a part of it any more: each borrows it, or holds it by an Arc.
         unsafe { libc::munmap(self.all as *mut libc::c_void, self.all_size) };
     }
@@ -236,7 +254,7 @@ pub struct VolatileSlice<'a> {
     of: PhantomData<&'a Regions>,
 }
 
-// SAFETY: whoever has it reads and writes shared memory, of which nothing is expected, by volatile accesses.
+// SAFETY: whoever has it reads and writes shared memory, of which nothing is expected, by atomic accesses.
 unsafe impl Send for VolatileSlice<'_> {}
 
 // SAFETY: as above.
@@ -263,7 +281,8 @@ impl<'a> VolatileSlice<'a> {
         self.len() == 0
     }
 
-    /// Where they begin. They are read and written by volatile accesses, or by calls of the system.
+    /// Where they begin. They are read and written by atomic accesses, or by calls of the system: a thread that does the
+    /// former by itself calls [`take_faults`](crate::queue::take_faults) before.
     pub fn as_ptr(&self) -> *mut u8 {
         self.raw.iov_base.cast()
     }
@@ -285,41 +304,40 @@ impl<'a> VolatileSlice<'a> {
     /// Copies the first of them: how many, all of `bytes` or all that there are.
     pub fn copy_to(&self, bytes: &mut [u8]) -> usize {
         let count = bytes.len().min(self.len());
-        let (mut at, mut left) = (self.as_ptr(), &mut bytes[..count]);
-        while !left.is_empty() {
-            let step = if at as usize % 8 == 0 && left.len() >= 8 { 8 } else { 1 };
-            let (part, rest) = left.split_at_mut(step);
-            // SAFETY: so many bytes are left of those that are mapped, and a word of them is aligned.
-            unsafe {
-                match step {
-                    8 => part.copy_from_slice(&at.cast::<u64>().read_volatile().to_ne_bytes()),
-                    _ => part[0] = at.read_volatile(),
-                }
-                at = at.add(step);
-            }
-            left = rest;
+        let (head, words, tail) = self.parts(count);
+        let (first, rest) = bytes[..count].split_at_mut(head.len());
+        let (middle, last) = rest.split_at_mut(8 * words.len());
+        first.iter_mut().zip(head).for_each(|(byte, at)| *byte = at.load(Ordering::Relaxed));
+        for (word, at) in middle.chunks_exact_mut(8).zip(words) {
+            word.copy_from_slice(&at.load(Ordering::Relaxed).to_ne_bytes());
         }
+        last.iter_mut().zip(tail).for_each(|(byte, at)| *byte = at.load(Ordering::Relaxed));
         count
     }
 
     /// Copies to the first of them: how many, as above.
     pub fn copy_from(&self, bytes: &[u8]) -> usize {
         let count = bytes.len().min(self.len());
-        let (mut at, mut left) = (self.as_ptr(), &bytes[..count]);
-        while !left.is_empty() {
-            let step = if at as usize % 8 == 0 && left.len() >= 8 { 8 } else { 1 };
-            let (part, rest) = left.split_at(step);
-            // SAFETY: as above.
-            unsafe {
-                match <[u8; 8]>::try_from(part) {
-                    Ok(word) => at.cast::<u64>().write_volatile(u64::from_ne_bytes(word)),
-                    Err(_) => at.write_volatile(part[0]),
-                }
-                at = at.add(step);
-            }
-            left = rest;
+        let (head, words, tail) = self.parts(count);
+        let (first, rest) = bytes[..count].split_at(head.len());
+        let (middle, last) = rest.split_at(8 * words.len());
+        first.iter().zip(head).for_each(|(byte, at)| at.store(*byte, Ordering::Relaxed));
+        for (word, at) in middle.chunks_exact(8).zip(words) {
+            let mut whole = [0; 8];
+            whole.copy_from_slice(word);
+            at.store(u64::from_ne_bytes(whole), Ordering::Relaxed);
         }
+        last.iter().zip(tail).for_each(|(byte, at)| at.store(*byte, Ordering::Relaxed));
         count
+    }
+
+    /// The first of them, of which there are so many: the words among them, and the bytes before and behind. The guest writes to them, and
+    /// other threads may: so each is an atomic.
+    fn parts(&self, count: usize) -> (&'a [AtomicU8], &'a [AtomicU64], &'a [AtomicU8]) {
+        take_faults();
+        assert!(count <= self.len());
+        // SAFETY: they are mapped as long as this is there, and any bytes are an atomic, as the three parts are that this divides them in.
+        unsafe { std::slice::from_raw_parts(self.as_ptr().cast::<AtomicU8>(), count).align_to() }
     }
 
     /// The same slices as `preadv` and its like take them. They are the guest's memory: as long as they are used by the system, what

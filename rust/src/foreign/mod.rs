@@ -26,7 +26,7 @@ pub(crate) use channel::{ChannelServer, ChannelSession, Mmap};
 pub(crate) use closing::{PeerFd, PeerSocket};
 pub(crate) use display::DisplaySession;
 pub(crate) use events::{memory_file, poll, without_signals, Bell, Event, Kick, Polled, Ringer, SignalFd, Timer};
-pub(crate) use guard::{lose_all, Holder};
+pub(crate) use guard::{lose_all, take_faults, unblock_faults, Holder};
 pub use guest::VolatileSlice;
 pub(crate) use guest::{Mapping, Region as GuestRegion, Regions, Slices};
 pub(crate) use moving::{Asks, Code, Moves, Outcome, Serves, MAX_FDS, MAX_MESSAGE};

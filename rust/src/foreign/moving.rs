@@ -60,6 +60,8 @@ const OTHER_CALL: Code = Code(110);
 /// A session that asks: each call is taken once its reply has come.
 pub(crate) trait Asks {
     type Session: Moves;
+    /// The size of each reply's body, where all have the same: a header of another is refused before its body comes.
+    const REPLY_BODY: Option<usize> = None;
     fn owning(&mut self) -> &mut Owning<Self::Session>;
     /// Before a call is asked.
     fn begin(&mut self) {}

@@ -2,18 +2,25 @@
 //! The proved library itself, and its queues, as assembly that the compiler takes in, and the memory that they ask for. Labels begin with
 //! the library's name, and have a number of their function's, so that nothing of the same module has them.
 
-#[cfg(target_arch = "x86_64")]
-std::arch::global_asm!(include_str!(concat!(env!("COVRETIN_GENERATED"), "/x86_64-linux/covretin.s")), options(att_syntax, raw));
+// (the symbol leaves out the note by which an object tells that all of it is protected, which would speak of the Rust beside it)
 #[cfg(target_arch = "x86_64")]
 std::arch::global_asm!(
+    ".set covretin_in_a_module, 1",
+    include_str!(concat!(env!("COVRETIN_GENERATED"), "/x86_64-linux/covretin.s")),
     include_str!(concat!(env!("COVRETIN_GENERATED"), "/x86_64-linux/covretin_queue.s")),
     options(att_syntax, raw)
 );
 
 #[cfg(target_arch = "aarch64")]
-std::arch::global_asm!(include_str!(concat!(env!("COVRETIN_GENERATED"), "/aarch64-linux/covretin.s")), options(raw));
-#[cfg(target_arch = "aarch64")]
-std::arch::global_asm!(include_str!(concat!(env!("COVRETIN_GENERATED"), "/aarch64-linux/covretin_queue.s")), options(raw));
+std::arch::global_asm!(
+    ".set covretin_in_a_module, 1",
+    include_str!(concat!(env!("COVRETIN_GENERATED"), "/aarch64-linux/covretin.s")),
+    include_str!(concat!(env!("COVRETIN_GENERATED"), "/aarch64-linux/covretin_queue.s")),
+    options(raw)
+);
+
+// The proved part finds these by their names, which a library of C's kind (cdylib) that has this package does not offer.
+std::arch::global_asm!(".hidden rattle_alloc", ".hidden rattle_realloc", ".hidden rattle_dealloc");
 
 /// Whether memory was had, and where it is: never at 0, which the proved part takes for no address.
 #[repr(C)]

@@ -4,10 +4,11 @@
 //! place is used while it is what the queue said, and the memory that it lies in is held.
 use std::os::raw::c_void;
 use std::ptr::null_mut;
-use std::sync::atomic::{fence, AtomicU16, Ordering};
+use std::sync::atomic::{fence, AtomicU16, AtomicU64, AtomicU8, Ordering};
 use std::sync::Arc;
 
-use super::guest::{Regions, Slices};
+use super::guard::take_faults;
+use super::guest::{Region as GuestRegion, Regions, Slices};
 use crate::queue::Error;
 
 /// `covretin_queue`.
@@ -145,6 +146,8 @@ extern "C" {
     fn covretin_queue_open(queue: &mut Raw) -> u32;
     fn covretin_queue_close(queue: &mut Raw);
     fn covretin_queue_set_regions(queue: &mut Raw, regions: *const Region, regions_len: usize) -> u32;
+    fn covretin_queue_add_region(queue: &mut Raw, region: &Region) -> u32;
+    fn covretin_queue_remove_region(queue: &mut Raw, guest_addr: u64, size: u64, user_addr: u64) -> u32;
     fn covretin_queue_translate(queue: &mut Raw, user: bool, addr: u64, len: u64, range: &mut Range) -> u32;
     fn covretin_queue_start_split(queue: &mut Raw, ring: &SplitRing) -> u32;
     fn covretin_queue_start_packed(queue: &mut Raw, ring: &PackedRing) -> u32;
@@ -222,6 +225,10 @@ fn outcome(number: u32) -> Result<(), Error> {
     }
 }
 
+fn region_of(it: &GuestRegion) -> Region {
+    Region { guest_addr: it.guest, size: it.size(), user_addr: it.user, host_addr: it.host() }
+}
+
 /// A chain that was followed to its end.
 pub(crate) struct Chain {
     /// Its parts: first those that are to be read, then those that are to be written.
@@ -263,7 +270,7 @@ unsafe impl Sync for CoreQueue {}
 // SAFETY, of each access to memory: the core is proved to name no range but one that lies inside a region which it was given, and its rings
 // to be aligned there as virtio has it. It was given regions of `Regions` alone: for descriptors those of `seen`, for rings those of
 // `rings`, which both stay mapped while they are held, and are memory of the guest, of which nothing else is in this process. Each value
-// is read once, by a volatile or an atomic access, and any value will do.
+// is read once, by an atomic access, and any value will do.
 impl CoreQueue {
     pub(crate) fn open() -> Result<CoreQueue, Error> {
         let mut raw = Raw { opaque: null_mut() };
@@ -275,13 +282,26 @@ impl CoreQueue {
 
     /// It sees these regions from now on; rings stay where they are mapped.
     pub(crate) fn set_regions(&mut self, regions: &Arc<Regions>) -> Result<(), Error> {
-        let list: Vec<Region> = regions
-            .iter()
-            .map(|it| Region { guest_addr: it.guest, size: it.size(), user_addr: it.user, host_addr: it.host() })
-            .collect();
+        let list: Vec<Region> = regions.iter().map(|it| region_of(it)).collect();
         // SAFETY: as above; the list is borrowed for the call, by its pointer, which is never null, and its own length.
         outcome(unsafe { covretin_queue_set_regions(&mut self.raw, list.as_ptr(), list.len()) })?;
         self.seen = regions.clone();
+        Ok(())
+    }
+
+    /// It sees one region more, by which it sees these: that is compared with each of the others once.
+    pub(crate) fn add_region(&mut self, region: &GuestRegion, all: &Arc<Regions>) -> Result<(), Error> {
+        // SAFETY: as above.
+        outcome(unsafe { covretin_queue_add_region(&mut self.raw, &region_of(region)) })?;
+        self.seen = all.clone();
+        Ok(())
+    }
+
+    /// It sees this one no more, and only these.
+    pub(crate) fn remove_region(&mut self, region: &GuestRegion, rest: &Arc<Regions>) -> Result<(), Error> {
+        // SAFETY: as above.
+        outcome(unsafe { covretin_queue_remove_region(&mut self.raw, region.guest, region.size(), region.user) })?;
+        self.seen = rest.clone();
         Ok(())
     }
 
@@ -534,6 +554,7 @@ impl Drop for CoreQueue {
 ///
 /// They are mapped, and aligned, and the reference ends before they are not.
 unsafe fn atomic<'a>(addr: u64) -> &'a AtomicU16 {
+    take_faults();
     // SAFETY: as the caller says.
     unsafe { &*(addr as usize as *const AtomicU16) }
 }
@@ -564,19 +585,17 @@ unsafe fn store(place: Range, value: u64) {
 ///
 /// Its 16 bytes are mapped.
 unsafe fn load_descriptor(addr: u64) -> Descriptor {
-    let words = if addr % 8 == 0 {
-        let at = addr as usize as *const u64;
-        // SAFETY: as the caller says, and it is aligned.
-        unsafe { [u64::from_le(at.read_volatile()), u64::from_le(at.add(1).read_volatile())] }
+    take_faults();
+    let mut words = [0; 2];
+    if addr % 8 == 0 {
+        // SAFETY: as the caller says, and they are aligned.
+        let both = unsafe { &*(addr as usize as *const [AtomicU64; 2]) };
+        words = [0, 1].map(|at| u64::from_le(both[at].load(Ordering::Relaxed)));
     } else {
-        let at = addr as usize as *const u8;
-        let mut words = [0; 2];
-        for place in 0..16 {
-            // SAFETY: as the caller says.
-            words[place / 8] |= u64::from(unsafe { at.add(place).read_volatile() }) << (8 * (place % 8));
-        }
-        words
-    };
+        // SAFETY: as the caller says.
+        let bytes = unsafe { &*(addr as usize as *const [AtomicU8; 16]) };
+        (0..16).for_each(|at| words[at / 8] |= u64::from(bytes[at].load(Ordering::Relaxed)) << (8 * (at % 8)));
+    }
     Descriptor { addr: words[0], len: words[1] as u32, third: (words[1] >> 32) as u16, fourth: (words[1] >> 48) as u16 }
 }
 

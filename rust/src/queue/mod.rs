@@ -38,6 +38,8 @@
 //! - A chain's descriptors are read when it is popped: an iterator over what the guest still writes would have errors of its own.
 use std::{error, fmt, io};
 
+use crate::foreign;
+
 mod chain;
 mod files;
 mod inflight;
@@ -47,12 +49,23 @@ mod ring;
 
 pub use self::chain::DescriptorChain;
 pub use self::inflight::InflightRegion;
+pub(crate) use self::memory::Change;
 pub use self::memory::{DirtyLog, GuestAddress, GuestMemory, GuestRegion};
 pub use self::ring::{Chains, Queue};
 pub use crate::foreign::VolatileSlice;
 
 /// The greatest number of parts of a request; of a queue that has more descriptors, as many as it has.
 pub const MAX_PARTS: usize = 1024;
+
+/// How many bytes at either end of what a device wrote and did not say are logged.
+const UNSAID: u64 = 1 << 20;
+
+/// Has this thread take SIGBUS, which a thread that blocks all signals does not: then memory that its frontend takes away would end the process at
+/// its next touch, in the place of becoming zeros. What this package does to guest memory calls it before; a thread that touches such memory by
+/// itself, at [`as_ptr`](VolatileSlice::as_ptr), has to. It costs nothing from the second time on.
+pub fn take_faults() {
+    foreign::take_faults();
+}
 
 /// Each error, its number in `covretin_queue.h`, and its text.
 macro_rules! errors {
@@ -108,9 +121,7 @@ errors! {
     EmptyDescriptor = 10, "a descriptor has no bytes";
     /// A head or a next descriptor is not in its table.
     NotInTable = 11, "a descriptor is not in its table";
-    /// A descriptor comes twice in its chain.
-    DescriptorLoop = 12, "a chain of descriptors is a loop";
-    /// A chain has more descriptors than it may.
+    /// A chain has more descriptors than it may, or is a loop.
     ChainTooLong = 13, "a chain has too many descriptors";
     /// A part that is to be read comes behind one that is to be written.
     ReadableAfterWritable = 14, "a readable part behind a writable one";

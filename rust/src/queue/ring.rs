@@ -4,7 +4,7 @@ use std::collections::VecDeque;
 
 use super::inflight::Area;
 use super::inflight_packed::PackedArea;
-use super::{DescriptorChain, DirtyLog, Error, GuestAddress, GuestMemory, InflightRegion, Result, MAX_PARTS};
+use super::{Change, DescriptorChain, DirtyLog, Error, GuestAddress, GuestMemory, InflightRegion, Result, MAX_PARTS, UNSAID};
 use crate::foreign::{Chain, CoreQueue, PackedRing, Range, SplitRing, Watch};
 
 /// The greatest size of a queue that there is.
@@ -76,7 +76,16 @@ impl Queue {
     /// It sees this memory from now on. A queue that is ready is found there; where it lies in none of it, nothing is taken until it does, and
     /// what it has stays mapped. OutOfMemory: nothing changed.
     pub fn set_memory(&mut self, memory: &GuestMemory) -> Result<()> {
-        self.core.set_regions(memory.regions())?;
+        self.change_memory(memory, &Change::All)
+    }
+
+    /// The same by how it differs from what it saw. An error: nothing changed.
+    pub(crate) fn change_memory(&mut self, memory: &GuestMemory, change: &Change) -> Result<()> {
+        match change {
+            Change::All => self.core.set_regions(memory.regions())?,
+            Change::More(region) => self.core.add_region(&region.0, memory.regions())?,
+            Change::Less(region) => self.core.remove_region(&region.0, memory.regions())?,
+        }
         self.find_rings();
         Ok(())
     }
@@ -317,6 +326,16 @@ impl Queue {
         }
     }
 
+    /// The next request; where there is none the driver tells of more from now on. Errors are those of `pop`.
+    pub(crate) fn pop_or_ask(&mut self) -> Result<Option<DescriptorChain>> {
+        loop {
+            match self.pop() {
+                Ok(None) if self.enable_notification() == Ok(true) => {}
+                popped => return popped,
+            }
+        }
+    }
+
     /// The requests that are there, and those that come meanwhile, as [`pop`](Self::pop) has them. After an error there is none.
     pub fn iter(&mut self) -> Chains<'_> {
         Chains { queue: self, has_ended: false }
@@ -390,13 +409,12 @@ impl Queue {
         self.core.follow(self.most_parts(), Ok)
     }
 
-    /// Gives a request back, of which so many bytes were written, from the first that is to be written on. In any order. All that was to be
-    /// written is logged, whatever of it was. NotStarted; NotHandedOut: the device has no such request.
+    /// Gives a request back, of which so many bytes were written, from the first that is to be written on. In any order. These are logged; and of
+    /// those behind them, which may have been written and are not said, the first mebibyte and the last, in which a status stands.
+    /// NotStarted; NotHandedOut: the device has no such request.
     pub fn add_used(&mut self, chain: &DescriptorChain, len: u32) -> Result<()> {
         let (id, inflight, packed) = (chain.id, &self.inflight, &mut self.packed_inflight);
-        if let Some(log) = &self.log {
-            chain.written.iter().for_each(|(guest, size)| log.mark(GuestAddress(*guest), *size));
-        }
+        self.log.iter().for_each(|log| log_chain(log, &chain.written, len));
         let used = self.core.add_used(id, len, |core| {
             inflight.iter().for_each(|inflight| inflight.before_used(id));
             if let (Some(packed), Ok(base)) = (packed, core.base()) {
@@ -464,6 +482,23 @@ impl Queue {
             false => range.addr.checked_sub(self.used_at).and_then(|into| used.0.checked_add(into)),
         };
         at.iter().for_each(|at| log.mark(GuestAddress(*at), range.len));
+    }
+}
+
+/// Logs what of these parts was written, and both ends of what may have been beyond: all of it would be terabytes, where a guest says so.
+fn log_chain(log: &DirtyLog, parts: &[(u64, u64)], written: u32) {
+    let all: u64 = parts.iter().map(|(_, size)| size).sum();
+    let (mut head, mut tail) = (u64::from(written) + UNSAID, all.saturating_sub(UNSAID));
+    if tail <= head {
+        (head, tail) = (all, all);
+    }
+    let mut at = 0;
+    for (guest, size) in parts {
+        let end = at + size;
+        log.mark(GuestAddress(*guest), head.clamp(at, end) - at);
+        let into = tail.clamp(at, end) - at;
+        log.mark(GuestAddress(guest + into), size - into);
+        at = end;
     }
 }
 

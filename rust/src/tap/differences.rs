@@ -6,14 +6,21 @@ use super::layout::{fields_of, name_of};
 use super::show::fields_text;
 use crate::vhost_user::message::{FrontendReq, VhostUserHeaderFlag, VhostUserProtocolFeatures};
 
+/// What a reply has in another way.
+pub(super) struct Differences {
+    pub(super) header: Vec<String>,
+    pub(super) body: Option<String>,
+}
+
 /// Each difference from what was written, with so many descriptors, to a call of this form.
-pub(super) fn differences(form: Form, written: Vec<u8>, fds: usize, reply: &Message) -> Vec<String> {
+pub(super) fn differences(form: Form, written: Vec<u8>, fds: usize, reply: &Message) -> Differences {
     let mut wanted = Message { bytes: written, ..Message::default() };
     // (where another request stood for it)
     wanted.bytes[..4].copy_from_slice(&reply.bytes[..4]);
-    let found = [flags(reply, &wanted), descriptors(reply, fds), body(form, reply, &wanted)];
     let name = name_of(TO_FRONTEND, reply);
-    found.into_iter().flatten().map(|it| format!("the reply to {name} has {it}")).collect()
+    let told = |it: String| format!("the reply to {name} has {it}");
+    let header = [flags(reply, &wanted), descriptors(reply, fds)];
+    Differences { header: header.into_iter().flatten().map(told).collect(), body: body(form, reply, &wanted).map(told) }
 }
 
 /// NEED_REPLY does not count: a frontend does not look at it.

@@ -6,7 +6,8 @@ use std::os::unix::io::RawFd;
 
 use super::call::{answer, form_of, is_awaited, is_refusal, stand_ins, Form};
 use super::differences::differences;
-use super::event::{count_of, number_at, Event, Message, What, HEADER, TO_BACKEND, TO_FRONTEND};
+use super::event::{count_of, number_at, Event, Message, Way, What, HEADER, TO_BACKEND, TO_FRONTEND};
+use super::finding::{leaver, leaver_behind, Finding, Kind, STOPPED};
 use super::layout::name_of;
 use super::refused::{has_own_reply, why};
 use super::unserved::{stands_for, StandIn};
@@ -80,11 +81,15 @@ pub(super) struct Judge {
     pending: Option<Pending>,
     /// Requests that were refused without a reply.
     refused: Vec<u32>,
-    complaints: Vec<String>,
+    findings: Vec<Finding>,
+    /// What of a message came last, of each way whose end is to be told.
+    cuts: Vec<(Way, String)>,
     /// When the last event was.
     now: f64,
     /// How many of its ways have ended.
     ended: usize,
+    /// Who ended the frontend's way, if that was not the backend.
+    left_by: Option<&'static str>,
     pub(super) tally: Tally,
 }
 
@@ -92,28 +97,32 @@ impl Judge {
     pub(super) fn new(profile: Profile) -> Judge {
         let opened = BackendSession::open().map(Judging::new);
         let session = opened.and_then(|mut session| session.set_profile(profile as u32).map(|()| session));
-        let complaints = session.as_ref().err().map(|_| "there is no memory to judge by".to_string());
-        Judge {
+        let failed = session.as_ref().err().map(|_| "there is no memory to judge by");
+        let mut judge = Judge {
             profile,
             session: session.ok(),
             agreed: Agreed::default(),
             waiting: VecDeque::new(),
             pending: None,
             refused: Vec::new(),
-            complaints: complaints.into_iter().collect(),
+            findings: Vec::new(),
+            cuts: Vec::new(),
             now: 0.0,
             ended: 0,
+            left_by: None,
             tally: Tally::default(),
-        }
+        };
+        failed.iter().for_each(|failed| judge.complain(*failed));
+        judge
     }
 
-    /// What is wrong with what happened.
-    pub(super) fn see(&mut self, event: &Event) -> Vec<String> {
+    /// What is found of what happened.
+    pub(super) fn see(&mut self, event: &Event) -> Vec<Finding> {
         self.now = event.time;
         match &event.what {
             What::Connected(Err(_)) => self.ended = WAYS,
             What::Message(way, message) if !message.is_whole() && way.channel == TO_BACKEND.channel => {
-                self.complain(cut_short(message));
+                self.cuts.push((*way, cut_short(message)));
             }
             What::Message(TO_BACKEND, message) if self.session.is_some() => {
                 self.waiting.push_back((event.time, message.clone()));
@@ -126,15 +135,27 @@ impl Judge {
             What::Bytes(way, _) if way.channel == TO_BACKEND.channel && self.session.is_some() => {
                 self.stop("these bytes are no message");
             }
-            What::Ended(way, _) if way.channel == TO_BACKEND.channel => {
-                self.ended += 1;
-                if *way == TO_FRONTEND {
-                    self.end(event.time);
-                }
-            }
+            What::Ended(way, cause) if way.channel == TO_BACKEND.channel => self.see_end(*way, cause.as_deref(), event.time),
             _ => {}
         }
-        std::mem::take(&mut self.complaints)
+        std::mem::take(&mut self.findings)
+    }
+
+    /// A way of the session has ended, so.
+    fn see_end(&mut self, way: Way, cause: Option<&str>, time: f64) {
+        self.ended += 1;
+        // (the other way may have its end still to be told)
+        if let Some(at) = self.cuts.iter().position(|(of, _)| *of == way) {
+            let (_, cut) = self.cuts.remove(at);
+            match cause {
+                Some(STOPPED) => self.note(Kind::Unanswered, format!("{cut}, as the session was ended by the tap")),
+                _ => self.complain(cut),
+            }
+        }
+        match way {
+            TO_FRONTEND => self.end(time, leaver_behind(cause).or(self.left_by)),
+            _ => self.left_by = leaver(cause),
+        }
     }
 
     /// Whether nothing more comes.
@@ -154,15 +175,25 @@ impl Judge {
         Some(name_of(TO_BACKEND, &pending.request))
     }
 
-    /// What is wrong where no more is seen of the session from this time on.
-    pub(super) fn leave(&mut self, time: f64) -> Option<String> {
-        let pending = self.pending.take()?;
-        let name = name_of(TO_BACKEND, &pending.request);
-        Some(format!("{name} was not replied to: what was seen ended {:.4} s later", time - pending.time))
+    /// What is found where no more is seen of the session from this time on.
+    pub(super) fn leave(&mut self, time: f64) -> Vec<Finding> {
+        for (_, cut) in std::mem::take(&mut self.cuts) {
+            self.note(Kind::Unanswered, format!("{cut}, as what was seen ended"));
+        }
+        if let Some(pending) = self.pending.take() {
+            let name = name_of(TO_BACKEND, &pending.request);
+            let text = format!("{name} is unanswered, as what was seen ended {:.4} s later", time - pending.time);
+            self.note(Kind::Unanswered, text);
+        }
+        std::mem::take(&mut self.findings)
     }
 
     fn complain(&mut self, complaint: impl Into<String>) {
-        self.complaints.push(complaint.into());
+        self.note(Kind::Wrong, complaint.into());
+    }
+
+    fn note(&mut self, kind: Kind, text: String) {
+        self.findings.push(Finding { kind, text });
     }
 
     /// Judges no more, for this reason.
@@ -177,11 +208,17 @@ impl Judge {
         self.waiting.clear();
     }
 
-    /// The backend's stream has ended.
-    fn end(&mut self, time: f64) {
+    /// The backend's stream has ended; by another where one is named.
+    fn end(&mut self, time: f64, by: Option<&str>) {
         if let Some(pending) = self.pending.take() {
-            let name = name_of(TO_BACKEND, &pending.request);
-            self.complain(format!("{name} was never replied to: the session ended {:.4} s later", time - pending.time));
+            let (name, after) = (name_of(TO_BACKEND, &pending.request), time - pending.time);
+            match by {
+                None => self.complain(format!("{name} was never replied to: the session ended {after:.4} s later")),
+                Some(by) => {
+                    let text = format!("{name} is unanswered, as the session was ended by {by} {after:.4} s later");
+                    self.note(Kind::Unanswered, text);
+                }
+            }
         }
         self.session = None;
         self.waiting.clear();
@@ -413,7 +450,15 @@ impl Judge {
         if written.is_empty() {
             return self.complain(self.nobody_awaits(&name_of(TO_FRONTEND, reply)));
         }
-        self.complaints.extend(differences(form, written, fds, reply));
+        let found = differences(form, written, fds, reply);
+        found.header.into_iter().for_each(|it| self.complain(it));
+        match found.body {
+            // (a frontend of Standard takes any)
+            Some(it) if self.profile == Profile::Standard && form == Form::Same => {
+                self.note(Kind::Taken, format!("{it}: not by the letter, taken by Standard"));
+            }
+            body => body.into_iter().for_each(|it| self.complain(it)),
+        }
     }
 }
 

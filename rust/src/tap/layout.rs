@@ -219,6 +219,7 @@ pub(super) fn fields_of(way: Way, message: &Message) -> Fields {
     match (tail, rest) {
         (_, None) => return vec![("body", Value::Bytes(body.to_vec()))],
         (Tail::End, Some([])) => {}
+        (Tail::Records("sizes", _), Some(rest)) => shown.push(("sizes", sizes(rest))),
         (Tail::Records(name, record), Some(rest)) => shown.push((name, records(record, rest, body))),
         (Tail::Bytes, Some(rest)) if rest.iter().all(|byte| *byte == 0) => {}
         (Tail::Bytes | Tail::End, Some(rest)) => shown.push(("bytes", Value::Bytes(rest.to_vec()))),
@@ -237,6 +238,12 @@ fn records(record: &'static [Field], rest: &[u8], body: &[u8]) -> Value {
     let width: usize = record.iter().map(|(_, width, _)| width).sum();
     let said = (u32_at(body, 0) as usize).max(1);
     Value::Records(rest.chunks_exact(width).take(said).map(|bytes| read(record, bytes).0).collect())
+}
+
+/// Sizes that are not 0, each with its place, which is the number of its region.
+fn sizes(rest: &[u8]) -> Value {
+    let sizes = rest.chunks_exact(8).map(|bytes| number_at(bytes, 0, 8)).enumerate().filter(|(_, size)| *size != 0);
+    Value::Records(sizes.map(|(at, size)| vec![("region", Value::Number(at as u64)), ("size", Value::Address(size))]).collect())
 }
 
 /// These fields, and what is left of the bytes; None where they are too few.

@@ -3,6 +3,7 @@
 mod call;
 mod differences;
 mod event;
+mod finding;
 mod gathering;
 mod json;
 mod judge;
@@ -51,7 +52,7 @@ pub fn run(words: impl IntoIterator<Item = OsString>, mut output: impl Write + S
         }
     };
     match said {
-        Ok(Verdict { failed: None, complaints: 0 }) => ExitCode::SUCCESS,
+        Ok(Verdict { failed: None, complaints: 0, .. }) => ExitCode::SUCCESS,
         Ok(Verdict { failed: None, .. }) => ExitCode::from(WRONG),
         Ok(Verdict { failed: Some(cause), .. }) | Err(cause) => {
             eprintln!("covretin-tap: {cause}");
@@ -63,7 +64,7 @@ pub fn run(words: impl IntoIterator<Item = OsString>, mut output: impl Write + S
 /// Prints a text that says nothing of a session.
 fn say(output: &mut impl Write, text: &str) -> io::Result<Verdict> {
     writeln!(output, "{text}").and_then(|()| output.flush())?;
-    Ok(Verdict { complaints: 0, failed: None })
+    Ok(Verdict { complaints: 0, failed: None, unconnected: None })
 }
 
 fn tap(options: &Options, output: impl Write + Send + 'static) -> io::Result<Verdict> {
@@ -133,6 +134,11 @@ fn tap_sockets<W: Write + Send + 'static>(
     let _ = remove_file(listen);
     reporter.stop();
     let mut verdict = watching.join().map_err(|_| io::Error::new(io::ErrorKind::Other, "the judge stopped"))?;
+    if let Some(cause) = verdict.unconnected.take() {
+        verdict
+            .failed
+            .get_or_insert_with(|| io::Error::new(io::ErrorKind::NotConnected, format!("{}: {cause}", connect.display())));
+    }
     if reporter.is_lost() {
         verdict.failed.get_or_insert_with(|| io::Error::new(io::ErrorKind::Other, "not all could be shown and judged"));
     }

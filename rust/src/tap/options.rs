@@ -1,6 +1,6 @@
 // SPDX-License-Identifier: Apache-2.0
 //! How the program is called.
-use std::ffi::OsString;
+use std::ffi::{OsStr, OsString};
 use std::os::unix::ffi::OsStrExt;
 use std::path::PathBuf;
 
@@ -8,23 +8,24 @@ use crate::vhost_user::Profile;
 
 /// What the program prints where it is called in another way.
 pub(super) const USAGE: &str = "\
-usage: covretin-tap [--profile=standard|vhost] [--json] [--hex] [--record FILE] [--count=N] LISTEN CONNECT
-       covretin-tap [--profile=standard|vhost] [--json] [--hex] --replay FILE";
+usage: covretin-tap [--profile=standard|vhost] [--json] [--hex] [--record=FILE] [--count=N] LISTEN CONNECT
+       covretin-tap [--profile=standard|vhost] [--json] [--hex] --replay=FILE";
 
 /// What is said of it by --help.
 pub(super) const HELP: &str = "
 Passes each session of vhost-user on from the socket LISTEN to the backend at the socket CONNECT, shows its messages, and
-says behind '!' where one of them is none that the protocol's table has.
+says behind '!' where one of them is none that the protocol's table has; behind '~' what was left unanswered, since another
+than the backend ended the session, and what is not by the letter, but taken by frontends.
 
   --profile=P    which table: standard, that of the specification and of real peers, or vhost, that of the crate vhost
   --json         a line of JSON for each event
   --hex          the bytes of each message
-  --record FILE  writes what is seen to FILE, a line of JSON each
+  --record=FILE  writes what is seen to FILE, a line of JSON each
   --count=N      ends with the Nth session; without it the tap ends by SIGINT or SIGTERM, and with it all sessions
-  --replay FILE  shows and judges what was recorded, in place of a session
+  --replay=FILE  shows and judges what was recorded, in place of a session
 
-Status: 0 where nothing is wrong; 1 where something is; 2 after wrong arguments; 4 where a path can't be used, or not all
-could be shown.";
+Status: 0 where nothing is wrong; 1 where something is; 2 after wrong arguments; 4 where a path can't be used, as one at which
+no backend listens, or not all could be shown.";
 
 /// How events are shown.
 #[derive(Clone, Copy, Debug, PartialEq, Eq)]
@@ -72,6 +73,8 @@ pub(super) fn parse(words: impl IntoIterator<Item = OsString>) -> Result<Asked, 
             b"--replay" => replay = Some(file("--replay")?),
             b"--profile=standard" => profile = Profile::Standard,
             b"--profile=vhost" => profile = Profile::Vhost,
+            bytes if bytes.starts_with(b"--record=") => record = Some(path_of(&bytes["--record=".len()..])),
+            bytes if bytes.starts_with(b"--replay=") => replay = Some(path_of(&bytes["--replay=".len()..])),
             [b'-', ..] => match word.to_string_lossy().strip_prefix("--count=") {
                 Some(number) => {
                     count = Some(number.parse().ok().filter(|it| *it != 0).ok_or("--count wants a number from 1 on")?)
@@ -83,6 +86,10 @@ pub(super) fn parse(words: impl IntoIterator<Item = OsString>) -> Result<Asked, 
     }
     let source = source(paths, replay, record, count)?;
     Ok(Asked::Tap(Options { profile, format, shows_bytes, source }))
+}
+
+fn path_of(bytes: &[u8]) -> PathBuf {
+    PathBuf::from(OsStr::from_bytes(bytes))
 }
 
 fn source(paths: Vec<PathBuf>, replay: Option<PathBuf>, record: Option<PathBuf>, count: Option<u64>) -> Result<Source, String> {
@@ -123,7 +130,9 @@ mod tests {
         let options = |source| Options { profile: Profile::Standard, format: Format::Text, shows_bytes: false, source };
         assert_eq!(Ok(Asked::Tap(options(sockets(None, None)))), parsed("a b"));
         assert_eq!(Ok(Asked::Tap(options(sockets(Some("f".into()), Some(3))))), parsed("--record f a --count=3 b"));
+        assert_eq!(Ok(Asked::Tap(options(sockets(Some("f=".into()), None)))), parsed("a --record=f= b"));
         let recording = options(Source::Recording("f".into()));
+        assert_eq!(Ok(Asked::Tap(recording.clone())), parsed("--replay=f"));
         assert_eq!(
             Ok(Asked::Tap(Options { profile: Profile::Vhost, format: Format::Json, shows_bytes: true, ..recording })),
             parsed("--json --hex --profile=vhost --replay f")

@@ -8,14 +8,12 @@ use std::sync::Arc;
 use std::thread;
 
 use super::event::{Channel, Message, Side, Way, What};
+use super::finding::{SENDS_NO_MORE, STOPPED, TAKEN_NO_MORE};
 use super::gathering::{Gathering, Received, ROOM};
 use super::open_sockets::OpenSockets;
 use super::reporter::Reporter;
 use crate::foreign::{is_ready, is_unix_stream, receive_any, send, PeerFd, PeerSocket};
 use crate::vhost_user::message::FrontendReq;
-
-/// How a stream ended that went on until the tap ended.
-const STOPPED: &str = "the tap was stopped";
 
 /// One way between two sockets.
 struct Line {
@@ -56,20 +54,25 @@ impl Line {
         let mut gathering = Gathering::default();
         let ended = self.pass_messages(&mut gathering);
         self.tell_part(&gathering);
-        match &ended {
-            Ok(cause) => {
-                // The receiver is told in the same way: that no more comes, or that its peer is gone.
-                let is_gone = cause.is_some() || is_ready(&self.from, 0, 0).unwrap_or(true);
-                let _ = self.to.shutdown(if is_gone { Shutdown::Both } else { Shutdown::Write });
-            }
+        let is_gone = matches!(ended, Ok(Some(_))) || is_ready(&self.from, 0, 0).unwrap_or(true);
+        // (before the other side hears of it: what that does then is told of behind it)
+        self.reporter.tell(What::Ended(self.way, self.cause_of(&ended, is_gone)));
+        match ended {
+            // The receiver is told in the same way: that no more comes, or that its peer is gone.
+            Ok(_) => drop(self.to.shutdown(if is_gone { Shutdown::Both } else { Shutdown::Write })),
             // The sender is told; what the receiver sent before still goes the other way.
             Err(_) => drop(self.from.shutdown(Shutdown::Read)),
         }
-        let cause = match ended.unwrap_or_else(Some) {
+    }
+
+    /// Why the stream ended so. None: its sender is gone.
+    fn cause_of(&self, ended: &io::Result<Option<io::Error>>, is_gone: bool) -> Option<String> {
+        match ended {
             _ if self.open.is_stopped() => Some(STOPPED.to_string()),
-            cause => cause.map(|cause| cause.to_string()),
-        };
-        self.reporter.tell(What::Ended(self.way, cause));
+            Ok(None) => (!is_gone).then(|| SENDS_NO_MORE.to_string()),
+            Ok(Some(cause)) => Some(cause.to_string()),
+            Err(cause) => Some(format!("{TAKEN_NO_MORE}: {cause}")),
+        }
     }
 
     /// Passes on until the sender's stream ends, or fails so. An error: the receiver takes no more.

@@ -1,6 +1,7 @@
 // SPDX-License-Identifier: Apache-2.0
 //! How an event is shown: a line of text, or of JSON.
 use super::event::{Event, Message, Way, What, TO_FRONTEND};
+use super::finding::{Finding, Kind};
 use super::json::Json;
 use super::layout::{fd_name, fields_of, flag_names, name_of, Fields, Value};
 use super::options::Format;
@@ -21,15 +22,20 @@ impl Shower {
         }
     }
 
-    /// The line of what is wrong with the event before it.
-    pub(super) fn complaint(&self, event: &Event, complaint: &str) -> String {
+    /// The line of what is found of the event before it: behind '!' what is wrong, behind '~' what is not.
+    pub(super) fn finding(&self, event: &Event, finding: &Finding) -> String {
+        let (mark, key) = match finding.kind {
+            Kind::Wrong => ("!", "complaint"),
+            Kind::Unanswered => ("~", "unanswered"),
+            Kind::Taken => ("~", "taken"),
+        };
         match self.format {
             Format::Json => {
                 let mut fields = head(event);
-                fields.push(("complaint", Json::text(complaint)));
+                fields.push((key, Json::text(&finding.text)));
                 Json::object(fields).to_string()
             }
-            Format::Text => format!("! {complaint}"),
+            Format::Text => format!("{mark} {}", finding.text),
         }
     }
 

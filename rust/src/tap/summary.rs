@@ -3,6 +3,7 @@
 use std::collections::BTreeMap;
 
 use super::event::{Channel, Event, Side, What};
+use super::finding::Kind;
 use super::json::Json;
 use super::judge::Tally;
 use super::layout::name_of;
@@ -15,11 +16,15 @@ pub(super) struct Summary {
     /// How many of each request came whole, of a frontend.
     requests: BTreeMap<String, usize>,
     pub(super) complaints: usize,
+    unanswered: usize,
+    taken: usize,
+    unconnected: usize,
     tally: Tally,
 }
 
 impl Summary {
     pub(super) fn see(&mut self, event: &Event) {
+        self.unconnected += usize::from(matches!(event.what, What::Connected(Err(_))));
         if let What::Message(way, message) = &event.what {
             if message.is_short {
                 return;
@@ -33,6 +38,25 @@ impl Summary {
                 *self.requests.entry(name).or_default() += 1;
             }
         }
+    }
+
+    /// One more was found of this kind.
+    pub(super) fn count(&mut self, kind: Kind) {
+        match kind {
+            Kind::Wrong => self.complaints += 1,
+            Kind::Unanswered => self.unanswered += 1,
+            Kind::Taken => self.taken += 1,
+        }
+    }
+
+    /// How many of each kind were found.
+    fn verdict(&self) -> String {
+        let told = |count: usize, name: &str| (count != 0).then(|| format!("{name}: {count}"));
+        let wrong = [told(self.complaints, "wrong"), told(self.unconnected, "not connected")];
+        let nothing = (self.complaints + self.unconnected == 0).then(|| "nothing is wrong".to_string());
+        let other = [nothing, told(self.unanswered, "unanswered"), told(self.taken, "not by the letter")];
+        let parts: Vec<String> = wrong.into_iter().chain(other).flatten().collect();
+        parts.join(", ")
     }
 
     /// Adds what was counted of a session.
@@ -58,10 +82,7 @@ impl Summary {
             if requests.is_empty() { "none".to_string() } else { requests.join(", ") },
             self.tally.refused_by_the_table,
             self.tally.refused_by_the_backend,
-            match self.complaints {
-                0 => "nothing is wrong".to_string(),
-                count => format!("wrong: {count}"),
-            }
+            self.verdict()
         )
     }
 
@@ -79,6 +100,9 @@ impl Summary {
             ("refused_by_the_backend", Json::count(self.tally.refused_by_the_backend)),
             ("longest_answer", longest),
             ("complaints", Json::count(self.complaints)),
+            ("unanswered", Json::count(self.unanswered)),
+            ("taken", Json::count(self.taken)),
+            ("not_connected", Json::count(self.unconnected)),
         ]);
         Json::object([("summary", summary)])
     }

@@ -5,6 +5,7 @@ use std::fs::File;
 use std::io::{self, BufWriter, Write};
 
 use super::event::{Event, What};
+use super::finding::Finding;
 use super::judge::Judge;
 use super::options::{Format, Options};
 use super::recording::line_of;
@@ -24,6 +25,8 @@ pub(super) struct Watcher<W: Write> {
     summary: Summary,
     /// When the last event was.
     last: f64,
+    /// Why a session was not connected to the backend.
+    unconnected: Option<String>,
     /// Why the output or the recording is not whole.
     failed: Option<io::Error>,
 }
@@ -31,6 +34,8 @@ pub(super) struct Watcher<W: Write> {
 /// What was found.
 pub(super) struct Verdict {
     pub(super) complaints: usize,
+    /// Why a session was not connected to the backend.
+    pub(super) unconnected: Option<String>,
     /// Why the output or the recording is not whole.
     pub(super) failed: Option<io::Error>,
 }
@@ -50,6 +55,7 @@ impl<W: Write> Watcher<W> {
             judges: BTreeMap::new(),
             summary: Summary::default(),
             last: 0.0,
+            unconnected: None,
             failed: None,
         }
     }
@@ -59,9 +65,12 @@ impl<W: Write> Watcher<W> {
         self.tell_waits(event.time);
         self.last = event.time;
         self.summary.see(event);
-        let complaints = self.judge(event);
+        if let What::Connected(Err(cause)) = &event.what {
+            self.unconnected = Some(cause.clone());
+        }
+        let findings = self.judge(event);
         self.record(event);
-        self.put(event, &complaints);
+        self.put(event, &findings);
     }
 
     /// When the next reply will have been awaited for long.
@@ -80,8 +89,8 @@ impl<W: Write> Watcher<W> {
         }
     }
 
-    /// What is wrong with an event. A session that has ended is forgotten.
-    fn judge(&mut self, event: &Event) -> Vec<String> {
+    /// What is found of an event. A session that has ended is forgotten.
+    fn judge(&mut self, event: &Event) -> Vec<Finding> {
         if !event.is_of_the_device() {
             return Vec::new();
         }
@@ -90,12 +99,12 @@ impl<W: Write> Watcher<W> {
             summary.sessions += 1;
             Judge::new(*profile)
         });
-        let complaints = judge.see(event);
+        let findings = judge.see(event);
         if judge.has_ended() {
             summary.add(std::mem::take(&mut judge.tally));
             judges.remove(&event.session);
         }
-        complaints
+        findings
     }
 
     fn record(&mut self, event: &Event) {
@@ -103,11 +112,11 @@ impl<W: Write> Watcher<W> {
         self.failed = self.failed.take().or(recorded.err());
     }
 
-    /// Shows an event, and what is wrong with it.
-    fn put(&mut self, event: &Event, complaints: &[String]) {
+    /// Shows an event, and what is found of it.
+    fn put(&mut self, event: &Event, findings: &[Finding]) {
         let mut lines = vec![self.shower.event(event)];
-        lines.extend(complaints.iter().map(|complaint| self.shower.complaint(event, complaint)));
-        self.summary.complaints += complaints.len();
+        lines.extend(findings.iter().map(|finding| self.shower.finding(event, finding)));
+        findings.iter().for_each(|finding| self.summary.count(finding.kind));
         let shown = writeln!(self.output, "{}", lines.join("\n"));
         self.failed = self.failed.take().or(shown.err());
     }
@@ -122,8 +131,9 @@ impl<W: Write> Watcher<W> {
     /// Judges what is still awaited, unless something was seen by nobody. Shows what was seen in numbers, and ends.
     pub(super) fn finish(mut self, is_whole: bool) -> Verdict {
         for (session, mut judge) in std::mem::take(&mut self.judges) {
-            if let Some(complaint) = judge.leave(self.last).filter(|_| is_whole) {
-                self.put(&Event { time: self.last, session, what: What::Left }, &[complaint]);
+            let findings = if is_whole { judge.leave(self.last) } else { Vec::new() };
+            if !findings.is_empty() {
+                self.put(&Event { time: self.last, session, what: What::Left }, &findings);
             }
             self.summary.add(judge.tally);
         }
@@ -133,7 +143,7 @@ impl<W: Write> Watcher<W> {
         };
         let shown = writeln!(self.output, "{summary}");
         self.flush();
-        Verdict { complaints: self.summary.complaints, failed: self.failed.or(shown.err()) }
+        Verdict { complaints: self.summary.complaints, unconnected: self.unconnected, failed: self.failed.or(shown.err()) }
     }
 }
 

@@ -165,10 +165,13 @@ impl<S: Asks> Connection<S> {
     /// descriptors came, and bytes behind the reply, to which they may belong.
     fn receive_all(&mut self, mut sent: usize, end: End) -> Result<bool> {
         let (mut fds, mut has_fds) = (Vec::new(), false);
-        let (mut at, mut count) = (0, 0);
+        let (mut at, mut count, mut came) = (0, 0, 0);
         loop {
             let missing = self.session.owning().missing();
             match missing {
+                1.. if came == HEADER && S::REPLY_BODY.map_or(false, |size| size != missing) => {
+                    return Err(Error::InvalidMessage)
+                }
                 0 if at < count && has_fds => return Err(Error::InvalidMessage),
                 0 => return Ok(at == count),
                 _ if at < count => {}
@@ -184,7 +187,7 @@ impl<S: Asks> Connection<S> {
             let part = missing.min(count - at);
             let handed_in = self.session.owning().receive(&self.bytes[at..at + part], &mut fds);
             handed_in.map_err(|code| self.error_of(code))?;
-            at += part;
+            (at, came) = (at + part, came + part);
         }
     }
 

@@ -14,17 +14,29 @@ pub fn text(bytes: &[u8]) -> String {
     String::from_utf8(bytes.to_vec()).unwrap()
 }
 
-/// Each line that says what is wrong, behind the line that it is about. They are told with the status, too.
-pub fn complaints(output: &Output) -> Vec<String> {
+/// Each line with this mark, behind the line that it is about.
+fn marked(output: &Output, mark: char) -> Vec<String> {
     let mut found = Vec::new();
     let mut about = "";
     let shown = text(&output.stdout);
     for line in shown.lines() {
-        match line.strip_prefix("! ") {
-            Some(complaint) => found.push(format!("{} ! {complaint}", about.trim_start())),
+        match line.strip_prefix(['!', '~']) {
+            Some(_) if line.starts_with(mark) => found.push(format!("{} {line}", about.trim_start())),
+            Some(_) => {}
             None => about = line,
         }
     }
+    found
+}
+
+/// Each line that says what is not wrong, though the letter has it not, or nobody replied to it.
+pub fn notes(output: &Output) -> Vec<String> {
+    marked(output, '~')
+}
+
+/// Each line that says what is wrong, behind the line that it is about. They are told with the status, too.
+pub fn complaints(output: &Output) -> Vec<String> {
+    let found = marked(output, '!');
     assert_eq!("", text(&output.stderr));
     assert_eq!(Some(i32::from(!found.is_empty())), output.status.code());
     found

@@ -7,7 +7,7 @@ ghost use Rattle.vhost_protocol.specs.Ask.{given_handle};
 ghost use Rattle.vhost_protocol.specs.FrontendCall as calls;
 ghost use Rattle.vhost_protocol.specs.declared.asked.Awaited.TheVariants.{Reply};
 ghost use Rattle.vhost_protocol.specs.declared.asked.Shape.TheVariants.{ShMemConfig};
-ghost use Rattle.vhost_frontend_types.specs.Region.{region_in};
+ghost use Rattle.vhost_backend.specs.Region.{region_in};
 ghost use Rattle.vhost_frontend_core.specs.Kept.{KeepsPlace};
 ghost use Rattle.vhost_frontend_core.specs.Plan.{IsRecord, planned as planned_as, record_in};
 ghost use Rattle.vhost_frontend_core.specs.Regions.{info_in, lent};
@@ -18,15 +18,15 @@ use crate::asked::{Kept, Sent};
 use crate::call::Call;
 use crate::internal::FrontendInternal;
 use crate::internal::plan::{Plan, Record, planned};
-use vhost_frontend_types::VhostUserMemoryRegionInfo;
+use vhost_backend::VhostUserMemoryRegionInfo;
 use vhost_link::Link;
 use vhost_message::{
-    ByteValued, Error, FrontendReq, Result, VhostUserEmpty, VhostUserShMemConfig, VhostUserU64,
+    ByteValued, Error, HeardReq, Result, VhostUserEmpty, VhostUserShMemConfig, VhostUserU64,
 };
 use vhost_protocol::Awaited;
 
 impl<L: Link> FrontendInternal<L> {
-    ghost use Rattle.vhost_endpoint.specs.Asking.{request_with};
+    ghost use Rattle.vhost_connection.specs.Asking.{request_with};
     ghost use Rattle.vhost_frontend_core.specs.Asking.{Asks, AsksWithRoom, Tries};
     ghost use Rattle.vhost_frontend_core.specs.Frontend.{endpoint_of, session_of, awaits, MayAsk};
     ghost use Rattle.vhost_frontend_core.specs.Halves.{AsksHalf, AsksHalfWithRoom};
@@ -134,7 +134,7 @@ impl<L: Link> FrontendInternal<L> {
     /// Sends a request with these flags: a body, if any, and a descriptor, if any.
     fn send_planned(
         &mut self,
-        request: (FrontendReq, u32, Awaited),
+        request: (HeardReq, u32, Awaited),
         body: &Record,
         handle: Option<&L::Handle>,
     ) -> Result<Sent>
@@ -150,7 +150,7 @@ impl<L: Link> FrontendInternal<L> {
     /// Sends a request with these flags: a body, and bytes behind it.
     pub(crate) fn send<T: ByteValued>(
         &mut self,
-        request: (FrontendReq, u32, Awaited),
+        request: (HeardReq, u32, Awaited),
         body: &T,
         payload: &[u8],
         handles: &[&L::Handle],
@@ -177,7 +177,7 @@ impl<L: Link> FrontendInternal<L> {
     /// Sends a request with these flags: a body, if any.
     fn send_record(
         &mut self,
-        request: (FrontendReq, u32, Awaited),
+        request: (HeardReq, u32, Awaited),
         body: &Record,
         handles: &[&L::Handle],
     ) -> Result<Sent>

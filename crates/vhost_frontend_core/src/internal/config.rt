@@ -4,10 +4,10 @@ ghost use Rattle.std.specs.Prelude.{◌≡◌, ◌≤◌, ◌+◌, ◌&&◌, ◌
 ghost use Rattle.vhost_message.specs.declared.limits.TheConstants.{MAX_MSG_SIZE};
 ghost use Rattle.vhost_message.specs.FlagBits.{config_bits};
 ghost use Rattle.vhost_message.specs.Valid.{is_valid_config};
-ghost use Rattle.vhost_message.specs.FrontendReq.{request_of};
+ghost use Rattle.vhost_message.specs.HeardReq.{request_of};
 ghost use Rattle.vhost_message.specs.Header.{is_reply_for};
 ghost use Rattle.vhost_message.specs.MsgHeader.{fields_of};
-ghost use Rattle.vhost_message.specs.declared.frontend_req.FrontendReq.TheVariants.{GET_CONFIG};
+ghost use Rattle.vhost_message.specs.declared.heard_req.HeardReq.TheVariants.{GET_CONFIG};
 ghost use Rattle.vhost_protocol.specs.Ask as ask;
 ghost use Rattle.vhost_protocol.specs.declared.asked.Awaited.TheVariants.{Nobody, Reply};
 ghost use Rattle.vhost_protocol.specs.declared.asked.Shape.TheVariants as shape;
@@ -21,10 +21,10 @@ ghost use Rattle.vhost_frontend_core.specs.TakingConfig.{is_asked};
 use crate::asked::{Kept, Sent};
 use crate::internal::{FrontendInternal, Header};
 use crate::session::{FrontendSession, param, valid};
-use vhost_endpoint::break_on_fault;
+use vhost_connection::break_on_fault;
 use vhost_link::Link;
 use vhost_message::{
-    ByteValued, Error, FrontendReq, MAX_MSG_SIZE, Result, VhostUserConfig, VhostUserConfigFlags,
+    ByteValued, Error, HeardReq, MAX_MSG_SIZE, Result, VhostUserConfig, VhostUserConfigFlags,
     VhostUserMsgValidator, protocol_bit,
 };
 use vhost_protocol::{Awaited, Profile, Shape};
@@ -39,7 +39,7 @@ impl<L: Link> FrontendInternal<L> {
     ghost use Rattle.vhost_frontend_core.specs.Halves.{AsksHalf, AsksHalfWithRoom, TakesHalf};
 
     /// Changes the configuration space from this byte on.
-    pub(crate) fn ask_set_config(
+    pub fn ask_set_config(
         &mut self,
         offset: u32,
         flags: VhostUserConfigFlags,
@@ -52,7 +52,7 @@ impl<L: Link> FrontendInternal<L> {
         self.session.needs(protocol_bit::CONFIG)?;
         param(VhostUserConfig::SIZE + buffer.len() <= MAX_MSG_SIZE)?;
         let request = (
-            FrontendReq::SET_CONFIG,
+            HeardReq::SET_CONFIG,
             self.session.flags(),
             self.session.acknowledgement(),
         );
@@ -60,7 +60,7 @@ impl<L: Link> FrontendInternal<L> {
     }
 
     /// Asks for `size` bytes from this byte on; as many as the buffer has, which is sent along.
-    pub(crate) fn ask_get_config(
+    pub fn ask_get_config(
         &mut self,
         offset: u32,
         size: u32,
@@ -86,11 +86,7 @@ impl<L: Link> FrontendInternal<L> {
             return Err(Error::OutOfMemory);
         };
         let flags = self.session.flags();
-        let request = (
-            FrontendReq::GET_CONFIG,
-            flags,
-            Awaited::Reply(Shape::Config),
-        );
+        let request = (HeardReq::GET_CONFIG, flags, Awaited::Reply(Shape::Config));
         match self.send(request, &part, buffer, &[]) {
             Ok(mut sent) => {
                 sent.kept = Kept::Config(part, bytes);
@@ -101,7 +97,7 @@ impl<L: Link> FrontendInternal<L> {
     }
 
     /// Receives the bytes, and where they lie.
-    pub(crate) fn take_get_config(&mut self, sent: Sent) -> Result<(VhostUserConfig, Vec<u8>)>
+    pub fn take_get_config(&mut self, sent: Sent) -> Result<(VhostUserConfig, Vec<u8>)>
         ensures taken { (offset size flags : ℕ) (buffer : List ℕ) → IsKeptFor {H = L.Handle} (call.GetConfig offset size flags buffer) (Reply shape.Config) sent.kept
             → TakesHalf L.event (call.GetConfig offset size flags buffer) (λ part. call.ConfigOf part.0 part.1.items) (Reply shape.Config) sent self.old result self.new }
         ensures quiet { awaits self.new ≡ Nobody }

@@ -1,7 +1,7 @@
 //! What each call becomes whose message is a header and at most one record: the table of a frontend's requests.
 
 ghost use Rattle.std.specs.Prelude.{◌≡◌, ◌==◌, ◌&&◌, ◌<◌, ◌∷◌, [], false, Ok, if◌then◌else◌, not, nat_le};
-ghost use Rattle.vhost_message.specs.declared.frontend_req.FrontendReq.TheVariants as code;
+ghost use Rattle.vhost_message.specs.declared.heard_req.HeardReq.TheVariants as code;
 ghost use Rattle.vhost_protocol.specs.Ask as ask;
 ghost use Rattle.vhost_protocol.specs.Ask.{Asked, ◌>>◌ as ◌and_then◌, given_handle, ring_number};
 ghost use Rattle.vhost_protocol.specs.Features.{PAGEFAULT};
@@ -11,7 +11,7 @@ ghost use Rattle.vhost_protocol.specs.Written as payload;
 ghost use Rattle.vhost_protocol.specs.declared.asked.Awaited.TheVariants.{Nobody, Reply};
 ghost use Rattle.vhost_protocol.specs.declared.asked.Shape.TheVariants as shape;
 ghost use Rattle.vhost_message.specs.VringConfig.{ring_addr};
-ghost use Rattle.vhost_endpoint.specs.Asking.{request_with};
+ghost use Rattle.vhost_connection.specs.Asking.{request_with};
 ghost use Rattle.vhost_frontend_core.specs.Asking.{tested};
 ghost use Rattle.vhost_frontend_core.specs.Plan.{IsRecord, planned as planned_as, record_in, written};
 ghost use Rattle.vhost_frontend_core.specs.Regions.{info_in, lent, log_region_in};
@@ -22,9 +22,9 @@ ghost use Rattle.vhost_frontend_core.specs.declared.internal.plan.Asking.TheVari
 use crate::call::Call;
 use crate::session::{FrontendSession, param, protocol_in};
 use bitflags::Flags;
-use vhost_frontend_types::{VhostUserDirtyLogRegion, VhostUserMemoryRegionInfo};
+use vhost_backend::{VhostUserDirtyLogRegion, VhostUserMemoryRegionInfo};
 use vhost_message::{
-    Error, FrontendReq, Result, VhostUserInflight, VhostUserLog, VhostUserMsgValidator,
+    Error, HeardReq, Result, VhostUserInflight, VhostUserLog, VhostUserMsgValidator,
     VhostUserSharedMsg, VhostUserSingleMemoryRegion, VhostUserTransferDeviceState,
     VhostUserVringAddr, VhostUserVringState, VringConfigData, has_bit, protocol_bit,
 };
@@ -58,7 +58,7 @@ pub enum Asking {
 /// What goes out, what is awaited of it, and the session from then on.
 #[derive(Drop)]
 pub struct Plan<'a, H> {
-    pub request: FrontendReq,
+    pub request: HeardReq,
     /// How the message asks for its acknowledgement.
     pub asking: Asking,
     pub body: Record,
@@ -83,7 +83,7 @@ impl<'a, H> Plan<'a, H> {
     /// Sent, and perhaps acknowledged; then the session is the next one.
     pub fn sends(
         next: FrontendSession,
-        request: FrontendReq,
+        request: HeardReq,
         body: Record,
         handle: Option<&'a H>,
     ) -> Self
@@ -103,7 +103,7 @@ impl<'a, H> Plan<'a, H> {
     /// Sent, and replied to.
     pub fn asks(
         session: FrontendSession,
-        request: FrontendReq,
+        request: HeardReq,
         body: Record,
         handle: Option<&'a H>,
         shape: Shape,
@@ -127,7 +127,7 @@ pub fn planned<'a, H>(session: FrontendSession, call: &Call<'a, H>) -> Result<Pl
     ensures { planned_as result ≡ ask.ask (frontend_of session) (call_in call.now) }
 {
     use Call::*;
-    use FrontendReq::*;
+    use HeardReq::*;
     match call {
         GetFeatures => Ok(Plan::asks(session, GET_FEATURES, Record::Empty, None, Shape::U64)),
         SetFeatures(features) => {
@@ -296,7 +296,7 @@ pub fn planned<'a, H>(session: FrontendSession, call: &Call<'a, H>) -> Result<Pl
 fn sends_once<'a, H>(
     test: Result<()>,
     next: FrontendSession,
-    request: FrontendReq,
+    request: HeardReq,
     body: Record,
     handle: Option<&'a H>,
 ) -> Result<Plan<'a, H>>
@@ -312,7 +312,7 @@ fn sends_once<'a, H>(
 fn asks_once<'a, H>(
     test: Result<()>,
     session: FrontendSession,
-    request: FrontendReq,
+    request: HeardReq,
     body: Record,
     handle: Option<&'a H>,
     shape: Shape,
@@ -328,7 +328,7 @@ fn asks_once<'a, H>(
 /// Turns the state of both sides, if postcopy is agreed on.
 fn turns<'a, H>(
     session: FrontendSession,
-    request: FrontendReq,
+    request: HeardReq,
     awaited: Awaited,
     handle: Option<&'a H>,
 ) -> Result<Plan<'a, H>>
@@ -348,7 +348,7 @@ fn turns<'a, H>(
 /// That the regions are mapped which this request brought.
 fn acks_regions<'a, H>(
     session: FrontendSession,
-    code: FrontendReq,
+    code: HeardReq,
     handle: Option<&'a H>,
 ) -> Result<Plan<'a, H>>
     ensures { planned_as result ≡ ask.param (ask.is_mapping code) and_then ask.Sends (ask.unacknowledged (frontend_of session) code (payload.U64 0) (given_handle (lent handle.entry))) Nobody (frontend_of session) }
@@ -385,7 +385,7 @@ fn sends_log<'a, H>(
     let log = VhostUserLog::new(area.mmap_size, area.mmap_offset);
     Ok(Plan::asks(
         session,
-        FrontendReq::SET_LOG_BASE,
+        HeardReq::SET_LOG_BASE,
         Record::LogArea(log),
         Some(handle),
         Shape::Log,
@@ -397,7 +397,7 @@ fn sends_base<'a, H>(session: FrontendSession, base: u64) -> Plan<'a, H>
     ensures { planned_as (Ok result) ≡ ask.sends_base (frontend_of session) base }
 {
     Plan {
-        request: FrontendReq::SET_LOG_BASE,
+        request: HeardReq::SET_LOG_BASE,
         asking: Asking::AsFlagged,
         body: Record::U64(base),
         handle: None,
@@ -409,7 +409,7 @@ fn sends_base<'a, H>(session: FrontendSession, base: u64) -> Plan<'a, H>
 /// A number for a ring.
 fn sends_ring<'a, H>(
     session: FrontendSession,
-    request: FrontendReq,
+    request: HeardReq,
     index: usize,
     num: u32,
     handle: Option<&'a H>,
@@ -433,7 +433,7 @@ fn sends_ring_addr<'a, H>(
     let index = session.index(index)?;
     param(config.flags <= 1)?;
     let ring = VhostUserVringAddr::from_config_data(index, &config);
-    let request = FrontendReq::SET_VRING_ADDR;
+    let request = HeardReq::SET_VRING_ADDR;
     Ok(Plan::sends(session, request, Record::RingAddr(ring), handle))
 }
 
@@ -447,7 +447,7 @@ fn asks_ring_base<'a, H>(
 {
     let index = session.index(index)?;
     let ring = Record::RingState(VhostUserVringState::new(index, 0));
-    let request = FrontendReq::GET_VRING_BASE;
+    let request = HeardReq::GET_VRING_BASE;
     Ok(Plan::asks(session, request, ring, handle, Shape::VringState))
 }
 
@@ -463,7 +463,7 @@ fn sends_ring_enable<'a, H>(
     protocol_in(session.acked)?;
     sends_ring(
         session,
-        FrontendReq::SET_VRING_ENABLE,
+        HeardReq::SET_VRING_ENABLE,
         index,
         enable.into(),
         handle,
@@ -473,7 +473,7 @@ fn sends_ring_enable<'a, H>(
 /// A descriptor for a ring; where there is none, bit 8 of the ring's number says so.
 fn sends_ring_handle<'a, H>(
     session: FrontendSession,
-    request: FrontendReq,
+    request: HeardReq,
     index: usize,
     handle: Option<&'a H>,
 ) -> Result<Plan<'a, H>>
@@ -514,7 +514,7 @@ fn added<'a, H>(
     let body = Record::OneRegion(region);
     if session.is_listening() {
         return Plan {
-            request: FrontendReq::ADD_MEM_REG,
+            request: HeardReq::ADD_MEM_REG,
             asking: Asking::Unacknowledged,
             body,
             handle: Some(handle),
@@ -522,7 +522,7 @@ fn added<'a, H>(
             next: session,
         };
     }
-    Plan::sends(session, FrontendReq::ADD_MEM_REG, body, Some(handle))
+    Plan::sends(session, HeardReq::ADD_MEM_REG, body, Some(handle))
 }
 
 /// The protocol feature of this bit is accepted, and the test of an argument holds.
@@ -535,10 +535,10 @@ fn allows<H>(session: FrontendSession, bit: u32, holds: bool) -> Result<()>
 }
 
 /// Whether the regions that this request brings are mapped while postcopy listens.
-fn is_mapping(code: FrontendReq) -> bool
+fn is_mapping(code: HeardReq) -> bool
     ensures { result ≡ ask.is_mapping code }
 {
-    matches!(code, FrontendReq::SET_MEM_TABLE | FrontendReq::ADD_MEM_REG)
+    matches!(code, HeardReq::SET_MEM_TABLE | HeardReq::ADD_MEM_REG)
 }
 
 /// Whether an inflight region is not empty.

@@ -7,7 +7,7 @@ ghost use Rattle.vhost_protocol.specs.declared.asked.Awaited.TheVariants.{Nobody
 ghost use Rattle.vhost_protocol.specs.AnswerTable.{after_success, plain_value};
 ghost use Rattle.vhost_protocol.specs.FrontendCall.{FrontendCall, Nothing};
 ghost use Rattle.vhost_protocol.specs.Error.{seen_result};
-ghost use Rattle.vhost_endpoint.specs.Calls.{HandsOver};
+ghost use Rattle.vhost_connection.specs.Calls.{HandsOver};
 ghost use Rattle.vhost_frontend_core.specs.Taking.{one_unless};
 
 use crate::asked::Sent;

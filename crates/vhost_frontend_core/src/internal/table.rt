@@ -3,7 +3,7 @@
 ghost use Rattle.std.specs.Prelude.{◌≡◌, ◌≤◌, ◌*◌, List, IfOk, length, map, take};
 ghost use Rattle.vhost_message.specs.declared.limits.TheConstants.{MAX_ATTACHED_FD_ENTRIES, MAX_MEM_REGIONS, MEMORY_REGION_SIZE};
 ghost use Rattle.vhost_message.specs.MsgHeader.{fields_of};
-ghost use Rattle.vhost_message.specs.declared.frontend_req.FrontendReq.TheVariants.{SET_MEM_TABLE};
+ghost use Rattle.vhost_message.specs.declared.heard_req.HeardReq.TheVariants.{SET_MEM_TABLE};
 ghost use Rattle.vhost_protocol.specs.Ask as ask;
 ghost use Rattle.vhost_protocol.specs.declared.asked.Awaited.TheVariants.{Nobody, Reply};
 ghost use Rattle.vhost_protocol.specs.declared.asked.Shape.TheVariants as shape;
@@ -17,13 +17,13 @@ use crate::internal::{FrontendInternal, Header};
 use crate::regions::{Regions, bases_of, first_handle, handles_of, table_of};
 use vhost_link::Link;
 use vhost_message::{
-    Error, FrontendReq, MAX_MEM_REGIONS, MEMORY_HEAD_SIZE, MEMORY_REGION_SIZE, Result,
+    Error, HeardReq, MAX_MEM_REGIONS, MEMORY_HEAD_SIZE, MEMORY_REGION_SIZE, Result,
     VhostUserMemory, VhostUserMemoryRegion, put_regions,
 };
 use vhost_protocol::{Awaited, Shape};
 
 impl<L: Link> FrontendInternal<L> {
-    ghost use Rattle.vhost_endpoint.specs.Asking.{request_with};
+    ghost use Rattle.vhost_connection.specs.Asking.{request_with};
     ghost use Rattle.vhost_frontend_core.specs.Asking.{AsksWithRoom, Tries};
     ghost use Rattle.vhost_frontend_core.specs.Frontend.{endpoint_of, session_of, awaits};
     ghost use Rattle.vhost_frontend_core.specs.Taking.{IsAck, RecvsTable};
@@ -98,12 +98,12 @@ impl<L: Link> FrontendInternal<L> {
         let payload = &mut payload[..MEMORY_REGION_SIZE * regions.len()];
         put_regions(regions, payload);
         let head = VhostUserMemory::new(regions.len() as u32);
-        let request = (FrontendReq::SET_MEM_TABLE, flags, awaited);
+        let request = (HeardReq::SET_MEM_TABLE, flags, awaited);
         self.send(request, &head, payload, handles)
     }
 
     /// Receives the acknowledgement, where there is one; or where each region is mapped.
-    pub(crate) fn take_set_mem_table(&mut self, sent: Sent) -> Result<Option<Vec<u64>>>
+    pub fn take_set_mem_table(&mut self, sent: Sent) -> Result<Option<Vec<u64>>>
         ensures mapped { (infos : List (call.Info L.Handle)) → IsKeptFor {H = L.Handle} (call.SetMemTable infos) (Reply shape.Memory) sent.kept → sent.awaited ≡ Reply shape.Memory
             → TakesHalf L.event (call.SetMemTable infos) (λ bases. call.Bases (bases_seen bases)) (Reply shape.Memory) sent self.old result self.new }
         ensures acked { (infos : List (call.Info L.Handle)) → IsAck sent.awaited

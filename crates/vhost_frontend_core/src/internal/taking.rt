@@ -13,7 +13,7 @@ ghost use Rattle.vhost_protocol.specs.FrontendCall.{LogRegion};
 ghost use Rattle.vhost_protocol.specs.Profile.{is_standard};
 ghost use Rattle.vhost_protocol.specs.declared.asked.Awaited.TheVariants.{Nobody, Reply};
 ghost use Rattle.vhost_protocol.specs.declared.asked.Shape.TheVariants as shape;
-ghost use Rattle.vhost_endpoint.specs.Calls.{HandsOver};
+ghost use Rattle.vhost_connection.specs.Calls.{HandsOver};
 ghost use Rattle.vhost_frontend_core.specs.Kept.{KeepsPlace};
 ghost use Rattle.vhost_frontend_core.specs.Taking.{valued};
 ghost use Rattle.vhost_frontend_core.specs.declared.asked.Kept.TheVariants.{Region};
@@ -81,7 +81,7 @@ impl<L: Link> FrontendInternal<L> {
     }
 
     /// The features are remembered as offered.
-    fn take_get_features(&mut self, sent: Sent) -> Result<u64>
+    pub fn take_get_features(&mut self, sent: Sent) -> Result<u64>
         ensures taken { TakesHalf L.event call.GetFeatures call.Number (Reply shape.U64) sent self.old result self.new }
         ensures quiet { awaits self.new ≡ Nobody }
     {
@@ -95,7 +95,7 @@ impl<L: Link> FrontendInternal<L> {
     }
 
     /// Bits without a meaning are dropped.
-    fn take_get_protocol_features(&mut self, sent: Sent) -> Result<VhostUserProtocolFeatures>
+    pub fn take_get_protocol_features(&mut self, sent: Sent) -> Result<VhostUserProtocolFeatures>
         ensures taken { TakesHalf L.event call.GetProtocolFeatures (λ features. call.Number features.bits) (Reply shape.U64) sent self.old result self.new }
         ensures quiet { awaits self.new ≡ Nobody }
     {
@@ -106,7 +106,7 @@ impl<L: Link> FrontendInternal<L> {
     }
 
     /// The number is remembered. InvalidMessage: it is greater than 0x8000; the old number stays.
-    fn take_get_queue_num(&mut self, sent: Sent) -> Result<u64>
+    pub fn take_get_queue_num(&mut self, sent: Sent) -> Result<u64>
         ensures taken { TakesHalf L.event call.GetQueueNum call.Number (Reply shape.U64) sent self.old result self.new }
         ensures quiet { awaits self.new ≡ Nobody }
     {
@@ -123,7 +123,7 @@ impl<L: Link> FrontendInternal<L> {
     }
 
     /// Receives the ring's next descriptor index.
-    fn take_get_vring_base(&mut self, sent: Sent) -> Result<u32>
+    pub fn take_get_vring_base(&mut self, sent: Sent) -> Result<u32>
         ensures taken { (index : ℕ) → TakesHalf L.event (call.GetVringBase index) call.Number (Reply shape.VringState) sent self.old result self.new }
         ensures quiet { awaits self.new ≡ Nobody }
     {
@@ -134,7 +134,7 @@ impl<L: Link> FrontendInternal<L> {
     }
 
     /// Receives how many regions the backend can be given.
-    fn take_get_max_mem_slots(&mut self, sent: Sent) -> Result<u64>
+    pub fn take_get_max_mem_slots(&mut self, sent: Sent) -> Result<u64>
         ensures taken { TakesHalf L.event call.GetMaxMemSlots call.Number (Reply shape.U64) sent self.old result self.new }
         ensures quiet { awaits self.new ≡ Nobody }
     {
@@ -145,7 +145,7 @@ impl<L: Link> FrontendInternal<L> {
     }
 
     /// Receives the acknowledgement, where there is one; or where the region is mapped.
-    fn take_add_mem_region(&mut self, sent: Sent) -> Result<Option<u64>>
+    pub fn take_add_mem_region(&mut self, sent: Sent) -> Result<Option<u64>>
         ensures mapped { (info : call.Info L.Handle) → sent.kept ≡ Region info.region → sent.awaited ≡ Reply shape.SingleMemoryRegion
             → TakesHalf L.event (call.AddMemRegion info) call.Base (Reply shape.SingleMemoryRegion) sent self.old result self.new }
         ensures acked { (info : call.Info L.Handle) → IsAck sent.awaited → TakesHalf L.event (call.AddMemRegion info) call.Base sent.awaited sent self.old result self.new }
@@ -177,7 +177,7 @@ impl<L: Link> FrontendInternal<L> {
     }
 
     /// Receives the acknowledgement, where there is one, or the reply.
-    fn take_set_log_base(&mut self, sent: Sent) -> Result<()>
+    pub fn take_set_log_base(&mut self, sent: Sent) -> Result<()>
         ensures area { (base : ℕ) (region : Option (LogRegion L.Handle)) → sent.awaited ≡ Reply shape.Log
             → TakesHalf L.event (call.SetLogBase base region) (λ _. call.Nothing) (Reply shape.Log) sent self.old result self.new }
         ensures base { (base : ℕ) (region : Option (LogRegion L.Handle)) → IsAck sent.awaited
@@ -205,7 +205,7 @@ impl<L: Link> FrontendInternal<L> {
     }
 
     /// Receives the descriptor of an object. Under `Standard` a reply without one says that there is no such object.
-    fn take_get_shared_object(&mut self, sent: Sent) -> Result<L::Handle>
+    pub fn take_get_shared_object(&mut self, sent: Sent) -> Result<L::Handle>
         ensures taken { (name : VhostUserSharedMsg) → TakesHalf L.event (call.GetSharedObject name) call.HandleOf (Reply shape.Empty) sent self.old result self.new }
         ensures quiet { awaits self.new ≡ Nobody }
     {
@@ -217,7 +217,7 @@ impl<L: Link> FrontendInternal<L> {
 
     /// Receives the inflight region: where it lies, and its descriptor. Under `Standard` a reply of the size 0 without one says
     /// that there is none.
-    fn take_get_inflight_fd(&mut self, sent: Sent) -> Result<(VhostUserInflight, L::Handle)>
+    pub fn take_get_inflight_fd(&mut self, sent: Sent) -> Result<(VhostUserInflight, L::Handle)>
         ensures taken { (asked : VhostUserInflight) → TakesHalf L.event (call.GetInflightFd asked) (λ buffer. call.InflightOf buffer.0 buffer.1) (Reply shape.Inflight) sent self.old result self.new }
         ensures quiet { awaits self.new ≡ Nobody }
     {
@@ -268,7 +268,7 @@ impl<L: Link> FrontendInternal<L> {
     }
 
     /// Receives the descriptor that the backend wants in place of the one it was given, if any.
-    fn take_set_device_state_fd(&mut self, sent: Sent) -> Result<Option<L::Handle>>
+    pub fn take_set_device_state_fd(&mut self, sent: Sent) -> Result<Option<L::Handle>>
         ensures taken { (transfer : VhostUserTransferDeviceState) (handle : L.Handle) → TakesHalf L.event (call.SetDeviceStateFd transfer handle) call.StateHandle (Reply shape.U64) sent self.old result self.new }
         ensures quiet { awaits self.new ≡ Nobody }
     {
@@ -279,7 +279,7 @@ impl<L: Link> FrontendInternal<L> {
     }
 
     /// Receives whether the transfer succeeded.
-    fn take_check_device_state(&mut self, sent: Sent) -> Result<()>
+    pub fn take_check_device_state(&mut self, sent: Sent) -> Result<()>
         ensures taken { TakesHalf L.event call.CheckDeviceState (λ _. call.Nothing) (Reply shape.U64) sent self.old result self.new }
         ensures quiet { awaits self.new ≡ Nobody }
     {
@@ -295,7 +295,7 @@ impl<L: Link> FrontendInternal<L> {
     }
 
     /// Receives the userfaultfd; postcopy is advised from now on. Under `Standard` a reply without one says that there is none.
-    fn take_postcopy_advise(&mut self, sent: Sent) -> Result<L::Handle>
+    pub fn take_postcopy_advise(&mut self, sent: Sent) -> Result<L::Handle>
         ensures taken { TakesHalf L.event call.PostcopyAdvise call.HandleOf (Reply shape.Empty) sent self.old result self.new }
         ensures quiet { awaits self.new ≡ Nobody }
     {
@@ -312,7 +312,7 @@ impl<L: Link> FrontendInternal<L> {
     }
 
     /// Receives the acknowledgement, where there is one. The backend listens from now on.
-    fn take_postcopy_listen(&mut self, sent: Sent) -> Result<()>
+    pub fn take_postcopy_listen(&mut self, sent: Sent) -> Result<()>
         ensures taken { TakesAck L.event call.PostcopyListen sent self.old result self.new }
         ensures quiet { awaits self.new ≡ Nobody }
     {
@@ -326,7 +326,7 @@ impl<L: Link> FrontendInternal<L> {
     }
 
     /// Receives the reply, or the acknowledgement, where there is one. Postcopy has ended from now on.
-    fn take_postcopy_end(&mut self, sent: Sent) -> Result<()>
+    pub fn take_postcopy_end(&mut self, sent: Sent) -> Result<()>
         ensures replied { sent.awaited ≡ Reply shape.U64 → TakesHalf L.event call.PostcopyEnd (λ _. call.Nothing) (Reply shape.U64) sent self.old result self.new }
         ensures acked { TakesAck L.event call.PostcopyEnd sent self.old result self.new }
         ensures quiet { awaits self.new ≡ Nobody }

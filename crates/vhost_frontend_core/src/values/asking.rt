@@ -14,7 +14,7 @@ use crate::regions::Regions;
 use crate::values::answer::FrontendAnswer;
 use crate::values::call::FrontendCall;
 use bitflags::Flags;
-use vhost_frontend_types::{VhostUserDirtyLogRegion, VhostUserMemoryRegionInfo};
+use vhost_backend::{VhostUserDirtyLogRegion, VhostUserMemoryRegionInfo};
 use vhost_link::{MemLink, PlainHandle};
 use vhost_message::{Result, VhostUserHeaderFlag};
 

@@ -8,10 +8,10 @@ ghost use Rattle.vhost_frontend_core.specs.Values.{log_region_of};
 use crate::call::Call;
 use crate::regions::{RegionInfo, Regions};
 use bitflags::Flags;
-use vhost_frontend_types::VhostUserDirtyLogRegion;
+use vhost_backend::VhostUserDirtyLogRegion;
 use vhost_link::PlainHandle;
 use vhost_message::{
-    ByteValued, FrontendReq, VhostTransferStateDirection, VhostTransferStatePhase,
+    ByteValued, HeardReq, VhostTransferStateDirection, VhostTransferStatePhase,
     VhostUserConfigFlags, VhostUserHeaderFlag, VhostUserInflight, VhostUserProtocolFeatures,
     VhostUserSharedMsg, VringConfigData,
 };
@@ -93,7 +93,7 @@ pub enum FrontendCall {
     PostcopyListen,
     PostcopyEnd,
     /// Which request brought the regions.
-    PostcopyAckMemRegions(FrontendReq),
+    PostcopyAckMemRegions(HeardReq),
     /// The MTU, in bytes.
     SetMtu(u16),
     /// The flags of each request from then on. Nothing is sent for it.

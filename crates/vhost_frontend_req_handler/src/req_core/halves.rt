@@ -16,8 +16,8 @@ use vhost_message::{Error, HandlerResult, IoCause, Result};
 
 impl<L: Link> FrontendReqCore<L> {
     ghost use Rattle.vhost_message.specs.declared.backend_req.BackendReq.{BackendReq};
-    ghost use Rattle.vhost_endpoint.specs.Requests.{IsReady};
-    ghost use Rattle.vhost_endpoint.specs.declared.request.Request.{Request};
+    ghost use Rattle.vhost_connection.specs.Requests.{IsReady};
+    ghost use Rattle.vhost_connection.specs.declared.request.Request.{Request};
     ghost use Rattle.vhost_frontend_req_handler.specs.Core.{endpoint_of, server_in};
     ghost use Rattle.vhost_frontend_req_handler.specs.Halves.{BeginsCall, Concludes, Refuses};
 

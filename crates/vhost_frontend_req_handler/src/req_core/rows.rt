@@ -1,7 +1,7 @@
 //! The requests: what each becomes.
 
 ghost use Rattle.std.specs.Prelude.{◌≡◌, ◌≤◌, ◌&&◌, true, false, IfSome, IfNone, List};
-ghost use Rattle.vhost_endpoint.specs.Calls.{HandsOver};
+ghost use Rattle.vhost_connection.specs.Calls.{HandsOver};
 ghost use Rattle.vhost_message.specs.declared.backend_req.BackendReq.{BackendReq};
 ghost use Rattle.vhost_message.specs.declared.backend_req.BackendReq.TheVariants.{CONFIG_CHANGE_MSG, SHARED_OBJECT_ADD, SHARED_OBJECT_REMOVE, SHARED_OBJECT_LOOKUP, SHMEM_MAP, SHMEM_UNMAP};
 ghost use Rattle.vhost_message.specs.declared.limits.TheConstants.{MAX_MSG_SIZE};
@@ -16,7 +16,7 @@ use vhost_message::{BackendReq, VhostUserMMap, VhostUserMsgValidator, VhostUserS
 
 #[tactic(auto, using(crate::proofs::Rows::bad, crate::proofs::Rows::asks, crate::proofs::Rows::no_handle, crate::proofs::Rows::not_served))]
 impl<L: Link> FrontendReqCore<L> {
-    ghost use Rattle.vhost_endpoint.specs.Requests.{Reads};
+    ghost use Rattle.vhost_connection.specs.Requests.{Reads};
     ghost use Rattle.vhost_frontend_req_handler.specs.Core.{BeginsRow, BeginsRowWith};
 
     /// What a request that was read becomes: by its code.

@@ -18,19 +18,19 @@ pub use Rattle.vhost_protocol.specs.Session.{Session, fresh}
 pub use Rattle.vhost_protocol.specs.Stream.{Cell, Item}
 pub use Rattle.vhost_link.specs.declared.handle.Kind.{Kind}
 pub use Rattle.vhost_link.specs.Law.{Event, move}
-pub use Rattle.vhost_endpoint.specs.Talk.{State, Talks}
+pub use Rattle.vhost_connection.specs.Talk.{State, Talks}
 pub use Rattle.vhost_backend_req.specs.declared.backend.Backend.{Backend}
 pub use Rattle.vhost_gpu_backend_req.specs.declared.backend.GpuBackend.{GpuBackend}
-pub use Rattle.vhost_serving.specs.declared.session_core.SessionCore.{SessionCore}
-pub use Rattle.vhost_serving.specs.Core.{endpoint_of, session_in}
-pub use Rattle.vhost_serving.specs.Opening.{OpensAsBackend, OpensAsGpu}
-pub use Rattle.vhost_serving.specs.Serving.{fitting}
+pub use Rattle.vhost_backend_req_handler.specs.declared.session_core.SessionCore.{SessionCore}
+pub use Rattle.vhost_backend_req_handler.specs.Core.{endpoint_of, session_in}
+pub use Rattle.vhost_backend_req_handler.specs.Opening.{OpensAsBackend, OpensAsGpu}
+pub use Rattle.vhost_backend_req_handler.specs.Serving.{fitting}
 pub use Rattle.vhost_frontend_core.specs.declared.values.call.FrontendCall.{FrontendCall}
 pub use Rattle.vhost_frontend_core.specs.declared.values.answer.FrontendAnswer.{FrontendAnswer}
-pub use Rattle.vhost_pair.specs.declared.halt.Stop.TheVariants.{Premise, Table}
-pub use Rattle.vhost_pair.specs.Device.{Gives, opens_backend, opens_gpu}
-pub use Rattle.vhost_pair.specs.Joined.{View}
-pub use Rattle.vhost_pair.specs.Lockstep.{entries}
+pub use Rattle.vhost_joined.specs.declared.halt.Stop.TheVariants.{Premise, Table}
+pub use Rattle.vhost_joined.specs.Device.{Gives, opens_backend, opens_gpu}
+pub use Rattle.vhost_joined.specs.Joined.{View}
+pub use Rattle.vhost_joined.specs.Lockstep.{entries}
 pub use Rattle.vhost_recorder.specs.Recording.{Recording, is_broken}
 pub use Rattle.vhost_promises.specs.Faults.{MeetsFault}
 pub use Rattle.vhost_promises.specs.Runs.{Unserved, answer_of_link}

@@ -13,7 +13,7 @@ use std::alloc::{AllocError, Global};
 use uuid::Uuid;
 use vhost_link::{Kind, PlainHandle};
 use vhost_message::{
-    FrontendReq, VhostTransferStateDirection, VhostTransferStatePhase, VhostUserConfigFlags,
+    HeardReq, VhostTransferStateDirection, VhostTransferStatePhase, VhostUserConfigFlags,
     VhostUserHeaderFlag, VhostUserInflight, VhostUserProtocolFeatures, VhostUserSharedMsg,
 };
 
@@ -70,10 +70,10 @@ pub(crate) fn handle(word: &str) -> Option<PlainHandle>
 }
 
 /// The request of a code.
-pub(crate) fn request(word: &str) -> Option<FrontendReq>
+pub(crate) fn request(word: &str) -> Option<HeardReq>
     ensures { result ≡ request word.now }
 {
-    FrontendReq::try_from(number_32(word)?).ok()
+    HeardReq::try_from(number_32(word)?).ok()
 }
 
 /// The direction of a number.

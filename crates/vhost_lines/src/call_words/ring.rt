@@ -20,8 +20,16 @@ pub(crate) fn set_vring_num(args: &[&str]) -> Option<FrontendCall>
     Some(FrontendCall::SetVringNum(index(ring)?, number_16(word)?))
 }
 
-/// A ring and its first index to look for available descriptors; of a packed ring both indices.
+/// A ring and its first index to look for available descriptors.
 pub(crate) fn set_vring_base(args: &[&str]) -> Option<FrontendCall>
+    ensures { called result ≡ two u64 u16 value.SetVringBase (texts args.now) }
+{
+    let [ring, word] = args else { return None };
+    Some(FrontendCall::SetVringBase(index(ring)?, number_16(word)?.into()))
+}
+
+/// A packed ring and both its indices, each with its wrap counter.
+pub(crate) fn set_packed_vring_base(args: &[&str]) -> Option<FrontendCall>
     ensures { called result ≡ two u64 u32 value.SetVringBase (texts args.now) }
 {
     let [ring, word] = args else { return None };

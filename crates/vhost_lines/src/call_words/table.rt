@@ -7,7 +7,8 @@ ghost use Rattle.vhost_lines.specs.Read.{called, texts, words_of, read_for};
 use crate::call_words::bare::bare;
 use crate::call_words::buffered::{get_config, set_config, set_mem_table};
 use crate::call_words::ring::{
-    set_vring_base, set_vring_call, set_vring_enable, set_vring_err, set_vring_kick, set_vring_num,
+    set_packed_vring_base, set_vring_base, set_vring_call, set_vring_enable, set_vring_err,
+    set_vring_kick, set_vring_num,
 };
 use crate::call_words::several::{
     add_mem_region, get_inflight_fd, remove_mem_region, set_device_state_fd, set_inflight_fd,
@@ -55,6 +56,7 @@ pub(crate) fn call_named(
         "set_hdr_flags" => Ok(set_hdr_flags(args)),
         "set_vring_num" => Ok(set_vring_num(args)),
         "set_vring_base" => Ok(set_vring_base(args)),
+        "set_packed_vring_base" => Ok(set_packed_vring_base(args)),
         "set_vring_call" => Ok(set_vring_call(args)),
         "set_vring_kick" => Ok(set_vring_kick(args)),
         "set_vring_err" => Ok(set_vring_err(args)),

@@ -9,7 +9,7 @@ use crate::call_words::words::first_word;
 
 /// Each call, and a letter for each word behind its name, as many as it may have; `*` is any number of regions.
 // generated from protocol/requests.toml: calls
-static CALLS: [(&str, &str); 37] = [
+static CALLS: [(&str, &str); 38] = [
     ("get_features", ""),
     ("set_owner", ""),
     ("reset_owner", ""),
@@ -32,7 +32,8 @@ static CALLS: [(&str, &str); 37] = [
     ("set_mtu", "s"),
     ("set_hdr_flags", "f"),
     ("set_vring_num", "ls"),
-    ("set_vring_base", "li"),
+    ("set_vring_base", "ls"),
+    ("set_packed_vring_base", "li"),
     ("set_vring_call", "lh"),
     ("set_vring_kick", "lh"),
     ("set_vring_err", "lh"),
@@ -53,7 +54,7 @@ static CALLS: [(&str, &str); 37] = [
 /// What a line that asks for help is told.
 // generated from protocol/requests.toml: help
 static HELP: &str =
-    "the calls are get_features, set_features, set_owner, reset_owner, set_mem_table, set_log_base, set_log_fd, set_vring_num, set_vring_addr, set_vring_base, get_vring_base, set_vring_kick, set_vring_call, set_vring_err, get_protocol_features, set_protocol_features, get_queue_num, set_vring_enable, set_mtu, set_backend_request_fd, get_config, set_config, postcopy_advise, postcopy_listen, postcopy_end, get_inflight_fd, set_inflight_fd, reset_device, get_max_mem_slots, add_mem_region, remove_mem_region, get_shared_object, set_device_state_fd, check_device_state, get_shmem_config, set_hdr_flags, postcopy_ack_mem_regions";
+    "the calls are get_features, set_features, set_owner, reset_owner, set_mem_table, set_log_base, set_log_fd, set_vring_num, set_vring_addr, set_vring_base, get_vring_base, set_vring_kick, set_vring_call, set_vring_err, get_protocol_features, set_protocol_features, get_queue_num, set_vring_enable, set_mtu, set_backend_request_fd, get_config, set_config, postcopy_advise, postcopy_listen, postcopy_end, get_inflight_fd, set_inflight_fd, reset_device, get_max_mem_slots, add_mem_region, remove_mem_region, get_shared_object, set_device_state_fd, check_device_state, get_shmem_config, set_hdr_flags, set_packed_vring_base, postcopy_ack_mem_regions";
 // end
 
 /// The words of a region.

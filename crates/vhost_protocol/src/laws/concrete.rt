@@ -7,13 +7,13 @@ use super::reverse::answered_as_served;
 use super::rows::{
     no_silent_stop, rows_keep_mark, silent_is_last, stays_in_step, stays_negotiated, whoever_waits,
 };
-use vhost_message::{BackendReq, FrontendReq};
+use vhost_message::{BackendReq, HeardReq};
 
 /// The laws of both channels, with numbers for descriptors, channels and displays.
 pub fn laws_of_both_channels() {
-    cut_in_order::<FrontendReq, u32>();
+    cut_in_order::<HeardReq, u32>();
     cut_in_order::<BackendReq, u32>();
-    read_as_written::<FrontendReq, u32>();
+    read_as_written::<HeardReq, u32>();
     read_as_written::<BackendReq, u32>();
     taken_as_served::<u32>();
     answered_as_served::<u32>();

@@ -2,13 +2,13 @@
 
 ghost use Rattle.std.specs.Prelude.{◌≡◌, ◌≤◌, [], IfOk, length, vec_len, vec_capacity};
 ghost use Rattle.vhost_frontend_core.specs.Values.{answer_of, call_of};
-ghost use Rattle.vhost_pair.specs.Lists.{regions_in, buffer_in, records_for};
+ghost use Rattle.vhost_joined.specs.Lists.{regions_in, buffer_in, records_for};
 ghost use Rattle.vhost_recorder.specs.Room.{HasRoomFor, Holds, places_in};
 
 use crate::copying::errors::copy_error;
 use std::alloc::{AllocError, Global};
+use vhost_joined::{FrontendAnswer, FrontendCall};
 use vhost_message::VhostUserShMemConfig;
-use vhost_pair::{FrontendAnswer, FrontendCall};
 
 /// Room for one answer: its lists, and the regions of shared memory.
 #[derive(Drop)]

@@ -5,8 +5,8 @@ ghost use Rattle.vhost_frontend_core.specs.Values.{call_of};
 
 use bitflags::Flags;
 use std::alloc::{AllocError, Global};
+use vhost_joined::FrontendCall;
 use vhost_message::VhostUserHeaderFlag;
-use vhost_pair::FrontendCall;
 
 /// The same items, in a list of their own.
 fn copied<T: Copy + Drop>(alloc: Global, items: &[T]) -> Result<Vec<T>, AllocError>

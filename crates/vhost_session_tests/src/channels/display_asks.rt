@@ -2,7 +2,7 @@
 
 use std::alloc::Global;
 use vhost_gpu_backend_req::BackendInternal;
-use vhost_gpu_message::VhostUserGpuCursorPos;
+use vhost_gpu_message::{VhostUserGpuCursorPos, VhostUserGpuEdidRequest};
 use vhost_link::{Cut, MemLink};
 use vhost_message::{Error, HandlerResult, IoCause, IoError, VhostUserU64};
 use vhost_promises::{asks_features, displays_broken, moves_cursor};
@@ -46,6 +46,28 @@ fn is_broken(answer: &HandlerResult<VhostUserU64>) -> bool {
     )
 }
 
-pub(crate) fn hold(alloc: Global) -> [bool; 2] {
-    [asked(alloc) == Some((3, true)), broken(alloc) == Some(true)]
+/// GET_EDID of screen 1, and the header of the reply to it, whose body is 1056 bytes.
+static EDID: [u8; 16] = [11, 0, 0, 0, 0, 0, 0, 0, 4, 0, 0, 0, 1, 0, 0, 0];
+
+static EDID_HEADER: [u8; 12] = [11, 0, 0, 0, 4, 0, 0, 0, 0x20, 4, 0, 0];
+
+/// Whether a screen's EDID is asked for so, and the reply is taken.
+fn edid(alloc: Global) -> Option<bool> {
+    let mut link = MemLink::new(alloc, Vec::new(alloc));
+    link.push(&EDID_HEADER, &[]).ok()?;
+    link.push(&[7; 1056], &[]).ok()?;
+    let mut channel = BackendInternal::from_stream(alloc, link, 0).ok()?;
+    let reply = channel
+        .get_edid(&VhostUserGpuEdidRequest { scanout_id: 1 })
+        .ok()?;
+    let is_asked = channel.endpoint_mut().link().taken().bytes() == EDID.as_slice();
+    Some(is_asked && reply.edid[1023] == 7)
+}
+
+pub(crate) fn hold(alloc: Global) -> [bool; 3] {
+    [
+        asked(alloc) == Some((3, true)),
+        broken(alloc) == Some(true),
+        edid(alloc) == Some(true),
+    ]
 }

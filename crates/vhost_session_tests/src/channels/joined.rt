@@ -5,12 +5,12 @@ ghost use Rattle.std.specs.Prelude.{⊤};
 use std::alloc::Global;
 use uuid::Uuid;
 use vhost_frontend_req_handler::VhostUserFrontendReqHandlerMut;
+use vhost_joined::Halt;
+use vhost_joined_reverse::{JoinedReverse, ReverseCall};
 use vhost_link::PlainHandle;
 use vhost_message::{
     ByteValued, Error, HandlerResult, IoError, VhostUserMMap, VhostUserSharedMsg, VhostUserU64,
 };
-use vhost_pair::Halt;
-use vhost_pair_reverse::{JoinedReverse, ReverseCall};
 use vhost_promises::runs_back_in_lockstep;
 
 /// Fails each call with this number of the system.

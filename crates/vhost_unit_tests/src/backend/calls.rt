@@ -3,7 +3,7 @@
 use crate::told::{Told, done, mapped, number};
 use std::cell::RefCell;
 use std::sync::{RwLock, Wait};
-use vhost_frontend_types::{
+use vhost_backend::{
     Error, Result, VhostBackend, VhostBackendMut, VhostUserDirtyLogRegion,
     VhostUserMemoryRegionInfo, VringConfigData,
 };

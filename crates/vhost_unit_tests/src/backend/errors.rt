@@ -1,7 +1,7 @@
 //! The texts of errors.
 
 use crate::texts::are_shown;
-use vhost_frontend_types::Error;
+use vhost_backend::Error;
 use vhost_message::{Error as ProtocolError, IoCause};
 
 static ERRORS: [(Error, &str); 12] = [

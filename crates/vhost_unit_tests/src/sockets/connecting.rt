@@ -12,12 +12,12 @@ use std::sync::Arc;
 use std::test::Fail;
 use std::time::{Duration, Instant};
 use std::{fs, io};
+use vhost_backend_req_handler::BackendReqHandler;
+use vhost_connection::Endpoint;
 use vhost_device::VhostUserBackendReqHandler;
-use vhost_endpoint::Endpoint;
 use vhost_frontend::Frontend;
 use vhost_link::UnixLink;
 use vhost_message::{FrontendReq, VhostUserMsgHeader};
-use vhost_serving::BackendReqHandler;
 
 type Header = VhostUserMsgHeader<FrontendReq>;
 

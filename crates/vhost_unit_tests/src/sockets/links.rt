@@ -6,11 +6,11 @@ use std::alloc::Global;
 use std::os::unix::net::UnixStream;
 use std::sync::Arc;
 use std::test::Fail;
+use vhost_backend_req_handler::BackendReqHandler;
+use vhost_connection::Endpoint;
 use vhost_device::VhostUserBackendReqHandler;
-use vhost_endpoint::Endpoint;
 use vhost_link::{Link, NoHandle, UnixLink};
 use vhost_message::{FrontendReq, IoCause, MAX_ATTACHED_FD_ENTRIES, VhostUserMsgHeader};
-use vhost_serving::BackendReqHandler;
 
 type Header = VhostUserMsgHeader<FrontendReq>;
 

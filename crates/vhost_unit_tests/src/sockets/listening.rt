@@ -11,13 +11,13 @@ use std::os::unix::net::{UnixListener, UnixStream};
 use std::sync::{Arc, Wait};
 use std::test::Fail;
 use std::time::Clock;
+use vhost_backend::VhostBackend;
+use vhost_backend_req_handler::{BackendListener, BackendReqHandler};
+use vhost_connection::Listener;
 use vhost_device::VhostUserBackendReqHandler;
-use vhost_endpoint::Listener;
 use vhost_frontend::Frontend;
-use vhost_frontend_types::VhostBackend;
 use vhost_link::UnixLink;
 use vhost_message::{Error, Result as Answer};
-use vhost_serving::{BackendListener, BackendReqHandler};
 
 /// How one call of `accept` goes.
 fn accept<F: Files + Drop, S: VhostUserBackendReqHandler<Link = UnixLink>>(

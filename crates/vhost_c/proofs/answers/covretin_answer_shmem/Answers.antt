@@ -5,9 +5,9 @@ use Rattle.vhost_c_common.proofs.ByNumber.{by-none, by-some}
 use Rattle.vhost_c.proofs.Reading.{reading}
 use Rattle.vhost_c.proofs.answers.covretin_answer_shmem.Goals as goal
 
-pub returns-in-None : goal.returns-in-None
-returns-in-None c = by-none _ _ _ _ c.in-None.ensures.taken c.in-None.ensures.left c.number_of.ensures
+pub returns-in-None-clause-does : goal.returns-in-None-clause-does
+returns-in-None-clause-does c = by-none _ _ _ _ c.in-None.ensures.taken c.in-None.ensures.left c.number_of.ensures
 
-pub returns-in-Some : goal.returns-in-Some
-returns-in-Some c = by-some _ _ _ _ c.in-Some.held.value c.in-Some.held.value c.read_shmem-outcome.result c.in-Some.ensures.taken c.put.ensures c.number_of-in-Some.ensures
-    (reading (ReadsShmem c.args.sizes.now c.read_shmem-outcome.new.sizes c.read_shmem-outcome.new.count) _ c.in-Some.held.value c.read_shmem-outcome.result (c.answer.ensures ∙ ap (λ (s : Session). s.answer) c.deref.ensures) c.read_shmem-outcome.ensures)
+pub returns-in-Some-clause-does : goal.returns-in-Some-clause-does
+returns-in-Some-clause-does c = by-some _ _ _ _ c.in-Some.held.value c.in-Some.held.value c.read_shmem-outcome.result c.in-Some.ensures.taken c.put.ensures c.number_of-in-Some.ensures
+    (reading (ReadsShmem c.args.sizes.now c.read_shmem-outcome.new.sizes c.read_shmem-outcome.new.count) _ c.in-Some.held.value c.read_shmem-outcome.result (c.answer.ensures ∙ ap (λ (s : Session). s.answer) c.deref.ensures) c.read_shmem-outcome.ensures.reads)

@@ -6,16 +6,16 @@ use Rattle.vhost_c_backend.specs.Serving.{Tells}
 use Rattle.vhost_c_backend.proofs.Told.{telling, refusing}
 use Rattle.vhost_c.proofs.backend_arguments.covretin_call_inflight.Goals as goal
 
-pub returns-in-None : goal.returns-in-None
-returns-in-None c = by-none _ _ _ _ c.in-None.ensures.taken c.in-None.ensures.left c.number_of.ensures
+pub returns-in-None-clause-does : goal.returns-in-None-clause-does
+returns-in-None-clause-does c = by-none _ _ _ _ c.in-None.ensures.taken c.in-None.ensures.left c.number_of.ensures
 
-pub returns-in-Ok : goal.returns-in-Ok
-returns-in-Ok c =
+pub returns-in-Ok-clause-does : goal.returns-in-Ok-clause-does
+returns-in-Ok-clause-does c =
     let fits : FitsSigned w32 c.in-Ok.number = search rules in
     let same : to_z w32 (of_z w32 c.in-Ok.number) ≡ c.in-Ok.number = omega (arith, ints) in
     by-some _ _ _ _ c.in-Some.held.value c.in-Some.held.value (Ok tt) c.in-Some.ensures.taken c.put.ensures c.number_of-in-Ok.ensures
     (telling inflight_arg c.in-Some.held.value _ c.deref.ensures _ (subst {A = ℤ} (λ z. Tells inflight_arg c.deref.result.now (Ok (c.in-Ok.area, z))) (sym same) c.in-Ok.ensures))
 
-pub returns-in-Err : goal.returns-in-Err
-returns-in-Err c = by-some _ _ _ _ c.in-Some.held.value c.in-Some.held.value (Err c.in-Err.refusal) c.in-Some.ensures.taken c.put.ensures c.number_of-in-Err.ensures
+pub returns-in-Err-clause-does : goal.returns-in-Err-clause-does
+returns-in-Err-clause-does c = by-some _ _ _ _ c.in-Some.held.value c.in-Some.held.value (Err c.in-Err.refusal) c.in-Some.ensures.taken c.put.ensures c.number_of-in-Err.ensures
     (refusing inflight_arg c.in-Some.held.value _ c.deref.ensures c.in-Err.refusal c.in-Err.ensures)

@@ -4,13 +4,13 @@ use Rattle.vhost_c_backend.specs.Arguments.{number_arg}
 use Rattle.vhost_c_backend.proofs.Told.{telling, refusing}
 use Rattle.vhost_c.proofs.backend_arguments.covretin_call_number.Goals as goal
 
-pub returns-in-None : goal.returns-in-None
-returns-in-None c = by-none _ _ _ _ c.in-None.ensures.taken c.in-None.ensures.left c.number_of.ensures
+pub returns-in-None-clause-does : goal.returns-in-None-clause-does
+returns-in-None-clause-does c = by-none _ _ _ _ c.in-None.ensures.taken c.in-None.ensures.left c.number_of.ensures
 
-pub returns-in-Ok : goal.returns-in-Ok
-returns-in-Ok c = by-some _ _ _ _ c.in-Some.held.value c.in-Some.held.value (Ok tt) c.in-Some.ensures.taken c.put.ensures c.number_of-in-Ok.ensures
+pub returns-in-Ok-clause-does : goal.returns-in-Ok-clause-does
+returns-in-Ok-clause-does c = by-some _ _ _ _ c.in-Some.held.value c.in-Some.held.value (Ok tt) c.in-Some.ensures.taken c.put.ensures c.number_of-in-Ok.ensures
     (telling (λ hs c. number_arg c) c.in-Some.held.value _ c.deref.ensures _ c.in-Ok.ensures)
 
-pub returns-in-Err : goal.returns-in-Err
-returns-in-Err c = by-some _ _ _ _ c.in-Some.held.value c.in-Some.held.value (Err c.in-Err.refusal) c.in-Some.ensures.taken c.put.ensures c.number_of-in-Err.ensures
+pub returns-in-Err-clause-does : goal.returns-in-Err-clause-does
+returns-in-Err-clause-does c = by-some _ _ _ _ c.in-Some.held.value c.in-Some.held.value (Err c.in-Err.refusal) c.in-Some.ensures.taken c.put.ensures c.number_of-in-Err.ensures
     (refusing (λ hs c. number_arg c) c.in-Some.held.value _ c.deref.ensures c.in-Err.refusal c.in-Err.ensures)

@@ -1,5 +1,5 @@
 use Rattle.std.proofs.Common.{◌≡◌, [], refl, ◌∙◌}
-use Rattle.vhost_message.specs.declared.frontend_req.FrontendReq.TheVariants.{GET_FEATURES, SET_OWNER, RESET_OWNER}
+use Rattle.vhost_message.specs.declared.heard_req.HeardReq.TheVariants.{GET_FEATURES, SET_OWNER, RESET_OWNER}
 use Rattle.vhost_protocol.specs.Stream.{plain}
 use Rattle.vhost_c_backend.specs.Served.{new_session, queued}
 use Rattle.vhost_c_backend.specs.Waiting.{IsWaiting, features_reply}

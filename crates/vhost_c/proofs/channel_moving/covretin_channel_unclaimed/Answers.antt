@@ -3,9 +3,9 @@ use Rattle.vhost_c_common.proofs.ByNumber.{by-none, by-some}
 use Rattle.vhost_c_channel.specs.declared.asking.Channel.{Channel}
 use Rattle.vhost_c.proofs.channel_moving.covretin_channel_unclaimed.Goals as goal
 
-pub returns-in-None : goal.returns-in-None
-returns-in-None c = by-none _ _ _ _ c.in-None.ensures.taken c.in-None.ensures.left c.number_of.ensures
+pub returns-in-None-clause-does : goal.returns-in-None-clause-does
+returns-in-None-clause-does c = by-none _ _ _ _ c.in-None.ensures.taken c.in-None.ensures.left c.number_of.ensures
 
-pub returns-in-Some : goal.returns-in-Some
-returns-in-Some c = by-some _ _ _ _ c.deref_mut.result.now c.unclaimed.new.self (Ok tt)
+pub returns-in-Some-clause-does : goal.returns-in-Some-clause-does
+returns-in-Some-clause-does c = by-some _ _ _ _ c.deref_mut.result.now c.unclaimed.new.self (Ok tt)
     (c.in-Some.ensures.taken ∙ ap {A = Channel} Some (sym c.deref_mut.ensures.value)) c.put.ensures c.number_of-in-Some.ensures (c.unclaimed.ensures.out, c.unclaimed.ensures.rest)

@@ -11,4 +11,4 @@ returns c =
     let x = c.covretin_display_take_display_info-number in
     let after : take c.args.places.bytes.len (x.new.place ++ drop (length x.new.place) c.args.places.bytes.items) ≡ x.new.place = grind (arith, common_steps) in
     subst (λ (xs : List ℕ). By (λ s o s'. TakesTo TheDisplayInfo display_info_of display_info_text c.args.places.bytes.items xs s s' o) c.args.display.now.session x.result x.new.display.session) (sym after)
-    (subst (λ (xs : List ℕ). By (λ s o s'. TakesTo TheDisplayInfo display_info_of display_info_text xs x.new.place s s' o) c.args.display.now.session x.result x.new.display.session) c.deref_mut.ensures.value x.ensures)
+    (subst (λ (xs : List ℕ). By (λ s o s'. TakesTo TheDisplayInfo display_info_of display_info_text xs x.new.place s s' o) c.args.display.now.session x.result x.new.display.session) c.deref_mut.ensures.value x.ensures.does)

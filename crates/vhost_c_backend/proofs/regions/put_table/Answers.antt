@@ -1,5 +1,5 @@
 use Rattle.std.proofs.Common.{◌<◌, length, refl, sym, subst, ◌∙◌}
-use Rattle.vhost_serving_core.specs.Beginning.{regions_in}
+use Rattle.vhost_backend_req_handler_core.specs.Beginning.{regions_in}
 use Rattle.vhost_c_backend.proofs.Placing.{length-with}
 use Rattle.vhost_c_backend.proofs.regions.put_table.Goals as goal
 

@@ -1,4 +1,4 @@
-use Rattle.vhost_endpoint.specs.State.{ahead_of}
+use Rattle.vhost_connection.specs.State.{ahead_of}
 use Rattle.vhost_c_common.proofs.OnWay.{collects}
 use Rattle.vhost_c_common.proofs.carrying.carry_out.Goals as goal
 

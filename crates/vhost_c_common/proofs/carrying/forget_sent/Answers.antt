@@ -1,6 +1,6 @@
 use Rattle.std.proofs.Common.{ap}
 use Rattle.vhost_link.specs.Ends.{Ends}
-use Rattle.vhost_endpoint.specs.State.{ahead_of}
+use Rattle.vhost_connection.specs.State.{ahead_of}
 use Rattle.vhost_c_common.proofs.OnWay.{collects, on-ok}
 use Rattle.vhost_c_common.proofs.carrying.forget_sent.Goals as goal
 

@@ -1,6 +1,6 @@
 use Rattle.std.proofs.Common.{refl, sym, ap, ◌∙◌}
 use Rattle.vhost_link.specs.Ends.{Ends}
-use Rattle.vhost_endpoint.specs.State.{ahead_of, state}
+use Rattle.vhost_connection.specs.State.{ahead_of, state}
 use Rattle.vhost_c_common.proofs.OnWay.{gives-ahead, no-cell}
 use Rattle.vhost_c_common.proofs.carrying.push_past.Goals as goal
 

@@ -1,5 +1,5 @@
 use Rattle.std.proofs.Common.{refl}
-use Rattle.vhost_endpoint.specs.State.{state}
+use Rattle.vhost_connection.specs.State.{state}
 use Rattle.vhost_c_common.proofs.OnWay.{given-link, refused-link}
 use Rattle.vhost_c_common.proofs.carrying.take_in.Goals as goal
 

@@ -2,9 +2,9 @@ use Rattle.std.proofs.Common.{◌≡◌, ◌⊎◌, ◌∙◌, ℕ, List, [], Op
 use Rattle.std.specs.Prelude.{is_some, if◌then◌else◌}
 use Rattle.vhost_protocol.specs.Session.{Session, heard_in}
 use Rattle.vhost_link.specs.declared.plain.PlainHandle.{PlainHandle}
-use Rattle.vhost_serving_core.specs.Session.{session_of}
-use Rattle.vhost_serving.specs.declared.halves.Pending.{Pending}
-use Rattle.vhost_serving.specs.declared.service.Service.{Service}
+use Rattle.vhost_backend_req_handler_core.specs.Session.{session_of}
+use Rattle.vhost_backend_req_handler.specs.declared.halves.Pending.{Pending}
+use Rattle.vhost_backend_req_handler.specs.declared.service.Service.{Service}
 use Rattle.vhost_c_common.specs.Incoming.{missing_by}
 use Rattle.vhost_c_backend.specs.Served as served
 use Rattle.vhost_c_backend.specs.declared.replies.Form.{Form}

@@ -3,10 +3,10 @@ use Rattle.std.proofs.Common.{Result, Ok, Err, map, subst}
 use Rattle.std.specs.Prelude.{IfOk}
 use Rattle.vhost_protocol.specs.Error.{seen_result}
 use Rattle.vhost_link.specs.Law.{move}
-use Rattle.vhost_endpoint.specs.Talk.{Talks}
-use Rattle.vhost_serving.specs.Core.{endpoint_of, session_in}
-use Rattle.vhost_serving.specs.Opening.{OpensAsBackend, OpensAsGpu}
-use Rattle.vhost_serving.specs.Serving.{fitting}
+use Rattle.vhost_connection.specs.Talk.{Talks}
+use Rattle.vhost_backend_req_handler.specs.Core.{endpoint_of, session_in}
+use Rattle.vhost_backend_req_handler.specs.Opening.{OpensAsBackend, OpensAsGpu}
+use Rattle.vhost_backend_req_handler.specs.Serving.{fitting}
 use Rattle.vhost_promises.proofs.Waiting.{all-answered}
 use Rattle.vhost_headline.proofs.headline.whole_runs.Goals as goal
 

@@ -2,9 +2,9 @@
 use Rattle.vhost_protocol.specs.Codes.{allows_handles}
 use Rattle.vhost_protocol.specs.Handler.{MeetsRow}
 use Rattle.vhost_protocol.specs.Session.{Session, heard_in}
-use Rattle.vhost_serving.specs.Core.{endpoint_of, session_in}
-use Rattle.vhost_serving.specs.Opening.{OpensAsBackend, OpensAsGpu}
-use Rattle.vhost_serving.specs.Serving.{fitting, kept_unsent}
+use Rattle.vhost_backend_req_handler.specs.Core.{endpoint_of, session_in}
+use Rattle.vhost_backend_req_handler.specs.Opening.{OpensAsBackend, OpensAsGpu}
+use Rattle.vhost_backend_req_handler.specs.Serving.{fitting, kept_unsent}
 use Rattle.vhost_promises.proofs.Faulting.{run-broken}
 use Rattle.vhost_promises.proofs.faults.stays_broken.Goals as goal
 

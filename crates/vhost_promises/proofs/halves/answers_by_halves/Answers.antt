@@ -1,6 +1,6 @@
 -- By the contracts of the halves, and their law.
 use Rattle.std.proofs.Common.{refl}
-use Rattle.vhost_endpoint.specs.Requests.{IsReady}
+use Rattle.vhost_connection.specs.Requests.{IsReady}
 use Rattle.vhost_frontend_req_handler.specs.Core.{endpoint_of}
 use Rattle.vhost_promises.proofs.halves.answers_by_halves.Goals as goal
 

@@ -1,22 +1,22 @@
 -- By the contracts of the halves, and their law.
 use Rattle.std.proofs.Common.{ℕ, Some, sym, subst}
-use Rattle.vhost_message.specs.declared.frontend_req.FrontendReq.{FrontendReq}
+use Rattle.vhost_message.specs.declared.heard_req.HeardReq.{HeardReq}
 use Rattle.vhost_protocol.specs.Row.{row_of}
 use Rattle.vhost_protocol.specs.Session.{Session}
-use Rattle.vhost_endpoint.specs.Requests.{IsReady}
-use Rattle.vhost_endpoint.specs.Talk.{State}
-use Rattle.vhost_endpoint.specs.declared.request.Request.{Request}
+use Rattle.vhost_connection.specs.Requests.{IsReady}
+use Rattle.vhost_connection.specs.Talk.{State}
+use Rattle.vhost_connection.specs.declared.request.Request.{Request}
 use Rattle.vhost_backend_req.specs.declared.backend.Backend.{Backend}
 use Rattle.vhost_gpu_backend_req.specs.declared.backend.GpuBackend.{GpuBackend}
-use Rattle.vhost_serving_core.specs.Concluding.{concluded, regions_for}
-use Rattle.vhost_serving_core.specs.Settling.{settled_by}
-use Rattle.vhost_serving_core.specs.declared.answer.Then.{Then}
-use Rattle.vhost_serving_core.specs.declared.settle.Unanswered.{Unanswered}
-use Rattle.vhost_serving.specs.Calling.{Called}
-use Rattle.vhost_serving.specs.Core.{endpoint_of, session_in}
-use Rattle.vhost_serving.specs.Halves.{beside_then}
-use Rattle.vhost_serving.specs.Opening.{OpensAsBackend, OpensAsGpu}
-use Rattle.vhost_serving.specs.Serving.{Finishes}
+use Rattle.vhost_backend_req_handler_core.specs.Concluding.{concluded, regions_for}
+use Rattle.vhost_backend_req_handler_core.specs.Settling.{settled_by}
+use Rattle.vhost_backend_req_handler_core.specs.declared.answer.Then.{Then}
+use Rattle.vhost_backend_req_handler_core.specs.declared.settle.Unanswered.{Unanswered}
+use Rattle.vhost_backend_req_handler.specs.Calling.{Called}
+use Rattle.vhost_backend_req_handler.specs.Core.{endpoint_of, session_in}
+use Rattle.vhost_backend_req_handler.specs.Halves.{beside_then}
+use Rattle.vhost_backend_req_handler.specs.Opening.{OpensAsBackend, OpensAsGpu}
+use Rattle.vhost_backend_req_handler.specs.Serving.{Finishes}
 use Rattle.vhost_promises.proofs.halves.serves_by_halves.Goals as goal
 
 pub returns-in-Some : goal.returns-in-Some
@@ -30,7 +30,7 @@ returns-in-Some g c alive =
     let done = c.conclude.ensures.concluded q.0 q.1 ready in
     let kept = subst (λ (u : Unanswered). Finishes g.L.Link.event q.0.request.code (settled_by u (concluded (session_in last) q.0.request.need_reply (beside_then q.0.then last.service) q.0.then c.in-Some.answer)) (endpoint_of last) (session_in last) c.conclude.result (endpoint_of c.conclude.new.self) (session_in c.conclude.new.self)) q.4 done in
     let told = subst (λ (t : Then). Finishes g.L.Link.event q.0.request.code (settled_by p.unanswered (concluded (session_in last) q.0.request.need_reply (beside_then t last.service) t c.in-Some.answer)) (endpoint_of last) (session_in last) c.conclude.result (endpoint_of c.conclude.new.self) (session_in c.conclude.new.self)) q.3 kept in
-    let finished = subst (λ (r : Request FrontendReq). Finishes g.L.Link.event r.code (settled_by p.unanswered (concluded (session_in last) r.need_reply (beside_then p.then last.service) p.then c.in-Some.answer)) (endpoint_of last) (session_in last) c.conclude.result (endpoint_of c.conclude.new.self) (session_in c.conclude.new.self)) q.2 told in
+    let finished = subst (λ (r : Request HeardReq). Finishes g.L.Link.event r.code (settled_by p.unanswered (concluded (session_in last) r.need_reply (beside_then p.then last.service) p.then c.in-Some.answer)) (endpoint_of last) (session_in last) c.conclude.result (endpoint_of c.conclude.new.self) (session_in c.conclude.new.self)) q.2 told in
     c.halves_law.ensures.served (endpoint_of c.args.core.now).budget c.args.core.now c.begin.new.self last c.conclude.new.self c.args.device.now c.call_device.new.device c.in-Some.answer c.conclude.result begun
     c.call_device.ensures.endpoint c.call_device.ensures.session c.call_device.ensures.regions
     (subst (λ (s : Session). Called g.D.VhostUserBackendReqHandlerMut.gives (λ h o. OpensAsBackend g.L.Link.opens g.L.Handle.Handle.kinds (endpoint_of c.args.core.now).budget h o) (λ h o. OpensAsGpu g.L.Link.opens g.L.Handle.Handle.kinds (endpoint_of c.args.core.now).budget h o) c.args.device.now (beside_then p.then last.service)

@@ -1,6 +1,6 @@
 -- The answers of calls of sides that are in step.
 use Rattle.std.proofs.Common.{◌≡◌, ◌++◌, inl, sym, ap, subst, ◌∙◌}
-use Rattle.vhost_pair.specs.Lockstep.{AreOffered, Lockstep}
+use Rattle.vhost_joined.specs.Lockstep.{AreOffered, Lockstep}
 use Rattle.vhost_promises.proofs.joined.stays_in_step.Goals as goal
 
 pub returns : goal.returns

@@ -1,5 +1,5 @@
 -- A request for a channel.
-use Rattle.vhost_serving.specs.Core.{endpoint_of, session_in}
+use Rattle.vhost_backend_req_handler.specs.Core.{endpoint_of, session_in}
 use Rattle.vhost_promises.proofs.OwnChannel.{opens-own}
 use Rattle.vhost_promises.proofs.opening.opens_its_own.Goals as goal
 

@@ -1,11 +1,11 @@
 -- A new frontend over a link that holds the reply.
 use Rattle.std.proofs.Common.{◌≡◌, ap, subst, ◌∙◌}
-use Rattle.vhost_endpoint.specs.State.{fresh}
+use Rattle.vhost_connection.specs.State.{fresh}
 use Rattle.vhost_frontend_core.specs.Frontend.{endpoint_of, session_of}
 use Rattle.vhost_link.specs.Ends.{Ends}
 use Rattle.vhost_protocol.specs.FrontendCall.{new_frontend}
 use Rattle.vhost_promises.specs.Read.{ReadsFeatures, replied}
-use Rattle.vhost_endpoint.specs.Memory.{stream}
+use Rattle.vhost_connection.specs.Memory.{stream}
 use Rattle.vhost_promises.specs.Streams.{Near}
 use Rattle.vhost_promises.proofs.read.reads_features_new.Goals as goal
 

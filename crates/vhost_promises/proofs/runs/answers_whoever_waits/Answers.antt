@@ -2,9 +2,9 @@
 use Rattle.std.proofs.Common.{Result, Ok, Err, map}
 use Rattle.std.specs.Prelude.{IfOk}
 use Rattle.vhost_protocol.specs.Error.{seen_result}
-use Rattle.vhost_serving.specs.Core.{endpoint_of, session_in}
-use Rattle.vhost_serving.specs.Opening.{OpensAsBackend, OpensAsGpu}
-use Rattle.vhost_serving.specs.Serving.{fitting}
+use Rattle.vhost_backend_req_handler.specs.Core.{endpoint_of, session_in}
+use Rattle.vhost_backend_req_handler.specs.Opening.{OpensAsBackend, OpensAsGpu}
+use Rattle.vhost_backend_req_handler.specs.Serving.{fitting}
 use Rattle.vhost_promises.proofs.Waiting.{all-answered}
 use Rattle.vhost_promises.proofs.runs.answers_whoever_waits.Goals as goal
 

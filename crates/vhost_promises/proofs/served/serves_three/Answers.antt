@@ -1,7 +1,7 @@
 -- Three requests that are served.
-use Rattle.vhost_serving.specs.Core.{endpoint_of, session_in}
-use Rattle.vhost_serving.specs.Opening.{OpensAsBackend, OpensAsGpu}
-use Rattle.vhost_pair.specs.Device.{opens, kinds}
+use Rattle.vhost_backend_req_handler.specs.Core.{endpoint_of, session_in}
+use Rattle.vhost_backend_req_handler.specs.Opening.{OpensAsBackend, OpensAsGpu}
+use Rattle.vhost_joined.specs.Device.{opens, kinds}
 use Rattle.vhost_promises.proofs.Serving.{serves}
 use Rattle.vhost_promises.proofs.served.serves_three.Goals as goal
 

@@ -1,7 +1,7 @@
 -- A request that nobody serves, and one that is.
-use Rattle.vhost_serving.specs.Core.{endpoint_of, session_in}
-use Rattle.vhost_serving.specs.Opening.{OpensAsBackend, OpensAsGpu}
-use Rattle.vhost_pair.specs.Device.{opens, kinds}
+use Rattle.vhost_backend_req_handler.specs.Core.{endpoint_of, session_in}
+use Rattle.vhost_backend_req_handler.specs.Opening.{OpensAsBackend, OpensAsGpu}
+use Rattle.vhost_joined.specs.Device.{opens, kinds}
 use Rattle.vhost_promises.proofs.Standing.{goes-on}
 use Rattle.vhost_promises.proofs.standard.goes_on_unserved.Goals as goal
 

@@ -1,7 +1,7 @@
 -- A stream without a message, of a frontend's requests.
 use Rattle.std.proofs.Common.{◌≡◌, Bool, true, false, [], Err, refl, ap, ◌∙◌}
 use Rattle.vhost_message.specs.Codes.{heard_by}
-use Rattle.vhost_message.specs.FrontendReq.{request_of, any_request}
+use Rattle.vhost_message.specs.HeardReq.{request_of, any_request}
 use Rattle.vhost_protocol.specs.Codes.{allows_handles}
 use Rattle.vhost_protocol.specs.Error.{Disconnected, InvalidMessage, PartialMessage}
 use Rattle.vhost_protocol.specs.Handler.{MeetsRow}
@@ -10,10 +10,10 @@ use Rattle.vhost_protocol.specs.Session.{Session, heard_in}
 use Rattle.vhost_protocol.specs.Split.{split, split_after, split_body, body_outcome}
 use Rattle.vhost_protocol.specs.Stream.{plain}
 use Rattle.vhost_link.specs.declared.plain.PlainHandle.{PlainHandle}
-use Rattle.vhost_serving.specs.Core.{endpoint_of, session_in}
-use Rattle.vhost_serving.specs.Opening.{OpensAsBackend, OpensAsGpu}
-use Rattle.vhost_serving.specs.Serving.{fitting, kept_unsent}
-use Rattle.vhost_pair.specs.Device.{opens, kinds}
+use Rattle.vhost_backend_req_handler.specs.Core.{endpoint_of, session_in}
+use Rattle.vhost_backend_req_handler.specs.Opening.{OpensAsBackend, OpensAsGpu}
+use Rattle.vhost_backend_req_handler.specs.Serving.{fitting, kept_unsent}
+use Rattle.vhost_joined.specs.Device.{opens, kinds}
 use Rattle.vhost_promises.specs.Streams.{in_body}
 use Rattle.vhost_promises.proofs.Known.{one-none}
 use Rattle.vhost_promises.proofs.streams.finds_none.Goals as goal

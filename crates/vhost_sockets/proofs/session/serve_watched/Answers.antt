@@ -1,6 +1,6 @@
 -- One more request, and what ends the session.
 use Rattle.std.proofs.Common.{arith, ◌<◌, ◌^◌, suc, refl}
-use Rattle.vhost_serving.specs.Sharing.{core_of}
+use Rattle.vhost_backend_req_handler.specs.Sharing.{core_of}
 use Rattle.vhost_sockets.specs.Session.{begins, goes_on, gate, call}
 use Rattle.vhost_sockets.proofs.session.serve_watched.Goals as goal
 

@@ -1,6 +1,6 @@
 -- So many requests were answered, and the session goes on.
 use Rattle.std.proofs.Common.{◌≡◌, ℕ, ◌<◌, ◌^◌}
-use Rattle.vhost_serving.specs.Sharing.{ServesShared, core_of}
+use Rattle.vhost_backend_req_handler.specs.Sharing.{ServesShared, core_of}
 use Rattle.vhost_sockets.specs.Session.{Goes}
 use Rattle.vhost_sockets.proofs.session.serve_watched.Given as goal
 

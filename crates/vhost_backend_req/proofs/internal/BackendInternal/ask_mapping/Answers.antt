@@ -1,5 +1,5 @@
 -- A call about shared memory, by both halves.
-use Rattle.vhost_endpoint.proofs.Errors.{passed-on}
+use Rattle.vhost_connection.proofs.Errors.{passed-on}
 use Rattle.vhost_backend_req.proofs.Answered.{ends-unsent, by-halves}
 use Rattle.vhost_backend_req.proofs.internal.BackendInternal.ask_mapping.Goals as goal
 

@@ -3,8 +3,8 @@ use Rattle.std.proofs.Common.{ℕ, sym, ap, ◌∙◌}
 use Rattle.std.specs.Prelude.{◌==◌}
 use Rattle.vhost_message.specs.declared.records.plain.VhostUserU64.{VhostUserU64}
 use Rattle.vhost_message.specs.MsgHeader.{fields_of}
-use Rattle.vhost_endpoint.specs.State.{state}
-use Rattle.vhost_endpoint.proofs.Handed.{hands-none, hands-some, nonzero}
+use Rattle.vhost_connection.specs.State.{state}
+use Rattle.vhost_connection.proofs.Handed.{hands-none, hands-some, nonzero}
 use Rattle.vhost_backend_req.proofs.Answered.{number-zero, number-other, number-crowded, number-missing}
 use Rattle.vhost_backend_req.proofs.internal.BackendInternal.recv_number.Goals as goal
 

@@ -1,5 +1,5 @@
 use Rattle.std.proofs.Common.{◌≡◌, Some, None, ap, ◌∙◌}
-use Rattle.vhost_serving_core.specs.declared.call.DeviceCall.{DeviceCall}
+use Rattle.vhost_backend_req_handler_core.specs.declared.call.DeviceCall.{DeviceCall}
 use Rattle.vhost_c_backend.specs.Calls.{call_number}
 use Rattle.vhost_c_backend.specs.Replies.{form_in}
 use Rattle.vhost_c_backend.proofs.Serving.{lent}

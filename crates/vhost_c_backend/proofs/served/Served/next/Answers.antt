@@ -3,7 +3,7 @@ use Rattle.std.specs.Prelude.{⊤}
 use Rattle.vhost_message.specs.declared.error.Error as declared
 use Rattle.vhost_link.specs.Ends.{Ends}
 use Rattle.vhost_link.specs.declared.plain.PlainHandle.{PlainHandle}
-use Rattle.vhost_endpoint.specs.Talk.{State}
+use Rattle.vhost_connection.specs.Talk.{State}
 use Rattle.vhost_c_common.specs.Carrying.{emptied}
 use Rattle.vhost_c_backend.specs.Served.{remembers}
 use Rattle.vhost_c_backend.proofs.Serving.{begins, read, is-due}

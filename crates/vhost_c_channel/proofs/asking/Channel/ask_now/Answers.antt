@@ -6,7 +6,7 @@ use Rattle.vhost_protocol.specs.Stream.{Cell}
 use Rattle.vhost_link.specs.Ends.{Ends}
 use Rattle.vhost_link.specs.Mem.{event}
 use Rattle.vhost_link.specs.declared.plain.PlainHandle.{PlainHandle}
-use Rattle.vhost_endpoint.specs.Talk.{State}
+use Rattle.vhost_connection.specs.Talk.{State}
 use Rattle.vhost_backend_req.specs.Channel.{channel}
 use Rattle.vhost_backend_req.specs.Halves.{AsksValue, input_of}
 use Rattle.vhost_backend_req.specs.declared.call.Asked.{Asked}

@@ -1,8 +1,8 @@
 use Rattle.std.proofs.Common.{◌++◌, Option, Some, Ok, Err, refl, sym, ap, ◌∙◌}
 use Rattle.vhost_link.specs.Ends.{Ends}
 use Rattle.vhost_link.specs.declared.plain.PlainHandle.{PlainHandle}
-use Rattle.vhost_endpoint.specs.Memory.{stream}
-use Rattle.vhost_endpoint.specs.Talk.{State}
+use Rattle.vhost_connection.specs.Memory.{stream}
+use Rattle.vhost_connection.specs.Talk.{State}
 use Rattle.vhost_backend_req.specs.Channel as link
 use Rattle.vhost_backend_req.specs.Channel.{backend_of}
 use Rattle.vhost_c_common.specs.Carrying.{emptied}

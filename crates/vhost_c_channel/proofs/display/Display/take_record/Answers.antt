@@ -3,8 +3,8 @@ use Rattle.vhost_gpu_message.specs.GpuHeader.{gpu_fields_of}
 use Rattle.vhost_protocol.specs.Gpu.{gpu_record_size}
 use Rattle.vhost_link.specs.Ends.{Ends}
 use Rattle.vhost_link.specs.declared.plain.PlainHandle.{PlainHandle}
-use Rattle.vhost_endpoint.specs.Memory.{stream}
-use Rattle.vhost_endpoint.specs.Talk.{State}
+use Rattle.vhost_connection.specs.Memory.{stream}
+use Rattle.vhost_connection.specs.Talk.{State}
 use Rattle.vhost_gpu_backend_req.specs.Channel as link
 use Rattle.vhost_gpu_backend_req.specs.declared.call.Awaited.{Awaited}
 use Rattle.vhost_c_common.specs.Carrying.{emptied}

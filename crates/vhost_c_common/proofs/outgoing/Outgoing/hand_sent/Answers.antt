@@ -1,6 +1,6 @@
 use Rattle.std.proofs.Common.{ap, ◌∙◌}
 use Rattle.vhost_link.specs.Ends.{Ends}
-use Rattle.vhost_endpoint.specs.State.{ahead_of, state}
+use Rattle.vhost_connection.specs.State.{ahead_of, state}
 use Rattle.vhost_c_common.proofs.outgoing.Outgoing.hand_sent.Goals as goal
 
 pub returns-clause-rest : goal.returns-clause-rest

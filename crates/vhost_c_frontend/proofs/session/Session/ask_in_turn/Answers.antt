@@ -5,7 +5,7 @@ use Rattle.vhost_frontend_core.specs.Frontend.{endpoint_of}
 use Rattle.vhost_message.specs.declared.error.Error as declared
 use Rattle.vhost_link.specs.Ends.{Ends}
 use Rattle.vhost_link.specs.declared.plain.PlainHandle.{PlainHandle}
-use Rattle.vhost_endpoint.specs.Talk.{State}
+use Rattle.vhost_connection.specs.Talk.{State}
 use Rattle.vhost_c_common.specs.Carrying.{emptied}
 use Rattle.vhost_c_common.specs.declared.held.Held.{Held}
 use Rattle.vhost_c_frontend.specs.Session.{Drops, Fails, no_queue, busy, fails}

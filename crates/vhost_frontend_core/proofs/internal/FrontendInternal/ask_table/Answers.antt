@@ -1,8 +1,8 @@
 -- SET_MEM_TABLE: what is asked.
 use Rattle.std.proofs.Common.{sym, ◌∙◌, ap, take, map, Bor}
-use Rattle.vhost_message.specs.declared.frontend_req.FrontendReq.TheVariants.{SET_MEM_TABLE}
+use Rattle.vhost_message.specs.declared.heard_req.HeardReq.TheVariants.{SET_MEM_TABLE}
 use Rattle.vhost_protocol.specs.Written.{Regions}
-use Rattle.vhost_endpoint.specs.Asking.{request_with}
+use Rattle.vhost_connection.specs.Asking.{request_with}
 use Rattle.vhost_frontend_core.specs.Asking.AsksWithRoom.{roomy}
 use Rattle.vhost_frontend_core.specs.Frontend.{session_of}
 use Rattle.vhost_frontend_core.proofs.Asking.{stops, passes, else_as, message_is, tried-as, tries_as}

@@ -4,7 +4,7 @@ use Rattle.std.specs.Prelude.{◌==◌}
 use Rattle.vhost_message.specs.declared.records.plain.VhostUserU64.{VhostUserU64}
 use Rattle.vhost_frontend_core.specs.Taking.RecvsAck.{agreed, refused, crowded_ack, unacked}
 use Rattle.vhost_frontend_core.proofs.Exits.{err_is}
-use Rattle.vhost_endpoint.proofs.Handed.{hands-none, hands-some, nonzero}
+use Rattle.vhost_connection.proofs.Handed.{hands-none, hands-some, nonzero}
 use Rattle.vhost_frontend_core.proofs.internal.FrontendInternal.recv_ack.Goals as goal
 
 pub returns-in_err-number-clause-received : goal.returns-in_err-number-clause-received

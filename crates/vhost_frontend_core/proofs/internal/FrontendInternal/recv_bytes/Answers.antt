@@ -1,6 +1,6 @@
 -- The reply with configuration bytes, by the profile.
 use Rattle.vhost_message.specs.MsgHeader.{fields_of}
-use Rattle.vhost_endpoint.specs.State.{state}
+use Rattle.vhost_connection.specs.State.{state}
 use Rattle.vhost_frontend_core.proofs.ReplyingConfig.{bytes-or-bare}
 use Rattle.vhost_frontend_core.proofs.internal.FrontendInternal.recv_bytes.Goals as goal
 

@@ -1,8 +1,8 @@
 -- The reply with configuration bytes.
 use Rattle.std.proofs.Common.{length, sym, subst, Ok, Err, ◌∙◌}
 use Rattle.vhost_message.specs.MsgHeader.{fields_of}
-use Rattle.vhost_endpoint.specs.State.{state}
-use Rattle.vhost_endpoint.specs.Talk.{State}
+use Rattle.vhost_connection.specs.State.{state}
+use Rattle.vhost_connection.specs.Talk.{State}
 use Rattle.vhost_frontend_core.specs.TakingConfig.{ReadsBytes, RecvsConfig}
 use Rattle.vhost_frontend_core.proofs.ReplyingConfig.{config-none, config-fails, config-unfit, config-crowded, config-comes}
 use Rattle.vhost_frontend_core.proofs.internal.FrontendInternal.recv_config.Goals as goal

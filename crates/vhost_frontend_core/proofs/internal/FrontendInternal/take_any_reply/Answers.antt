@@ -1,6 +1,6 @@
 -- A reply of any size.
 use Rattle.std.proofs.Common.{sym, ◌∙◌}
-use Rattle.vhost_endpoint.proofs.Handed.{hands-none, hands-some}
+use Rattle.vhost_connection.proofs.Handed.{hands-none, hands-some}
 use Rattle.vhost_frontend_core.specs.Taking.AwaitsAny.{any_for_reply, any, any_crowded, any_missing}
 use Rattle.vhost_frontend_core.proofs.Exits.{err_is}
 use Rattle.vhost_frontend_core.proofs.internal.FrontendInternal.take_any_reply.Goals as goal

@@ -5,7 +5,7 @@ use Rattle.vhost_protocol.specs.AnswerTable.{answered}
 use Rattle.vhost_protocol.specs.Error.{BackendInternalError}
 use Rattle.vhost_protocol.specs.FrontendCall.{Nothing}
 use Rattle.vhost_frontend_core.specs.Frontend.{session_of}
-use Rattle.vhost_endpoint.proofs.Handed.{nonzero}
+use Rattle.vhost_connection.proofs.Handed.{nonzero}
 use Rattle.vhost_frontend_core.proofs.Taking.{alone-replied, alone-fails}
 use Rattle.vhost_frontend_core.proofs.internal.FrontendInternal.take_check_device_state.Goals as goal
 

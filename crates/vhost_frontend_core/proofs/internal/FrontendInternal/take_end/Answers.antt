@@ -8,7 +8,7 @@ use Rattle.vhost_protocol.specs.Error.{BackendInternalError}
 use Rattle.vhost_protocol.specs.FrontendCall.{Frontend, Nothing}
 use Rattle.vhost_protocol.specs.Session.{is_listen}
 use Rattle.vhost_frontend_core.specs.Frontend.{session_of}
-use Rattle.vhost_endpoint.proofs.Handed.{nonzero}
+use Rattle.vhost_connection.proofs.Handed.{nonzero}
 use Rattle.vhost_frontend_core.proofs.Taking.{alone-replied, alone-fails}
 use Rattle.vhost_frontend_core.proofs.internal.FrontendInternal.take_end.Goals as goal
 

@@ -4,7 +4,7 @@ use Rattle.vhost_protocol.specs.Reverse.{ReverseMeets, Server, backend_allows_ha
 use Rattle.vhost_frontend_req_handler.specs.Core.{endpoint_of, server_in}
 use Rattle.vhost_frontend_req_handler.specs.Handling.{fitting, kept}
 use Rattle.vhost_frontend_req_handler.specs.Sharing.{any_answer}
-use Rattle.vhost_endpoint.proofs.Running.{calls-once, wider-once}
+use Rattle.vhost_connection.proofs.Running.{calls-once, wider-once}
 use Rattle.vhost_frontend_req_handler.proofs.Sharing.{meets-any, unseen}
 use Rattle.vhost_frontend_req_handler.proofs.handler.FrontendReqHandler.handle_request.Goals as goal
 

@@ -6,7 +6,7 @@ use Rattle.vhost_message.specs.declared.error.Error.TheVariants as code
 use Rattle.vhost_protocol.specs.Error.{InvalidMessage}
 use Rattle.vhost_protocol.specs.IoError.{Of}
 use Rattle.vhost_protocol.specs.Reverse.{Calls, ReverseMeets, Server, backend_allows_handles, reverse_row_of, with_number}
-use Rattle.vhost_endpoint.proofs.Serving.{handles-unread, handles-request}
+use Rattle.vhost_connection.proofs.Serving.{handles-unread, handles-request}
 use Rattle.vhost_frontend_req_handler.specs.Calling.{call_in}
 use Rattle.vhost_frontend_req_handler.specs.Core.{endpoint_of, server_in}
 use Rattle.vhost_frontend_req_handler.specs.Halves.{uncalled}

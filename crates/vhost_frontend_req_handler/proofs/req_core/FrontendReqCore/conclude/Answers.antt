@@ -3,8 +3,8 @@ use Rattle.std.proofs.Common.{◌≡◌, ◌∙◌, Err, subst}
 use Rattle.std.proofs.lemmas.Result.{err_from_is_err_and}
 use Rattle.vhost_message.specs.declared.backend_req.BackendReq.{BackendReq}
 use Rattle.vhost_protocol.specs.IoError.{seen_io_result}
-use Rattle.vhost_endpoint.specs.declared.request.Request.{Request}
-use Rattle.vhost_endpoint.proofs.Serving.{replies-told, stops-told}
+use Rattle.vhost_connection.specs.declared.request.Request.{Request}
+use Rattle.vhost_connection.proofs.Serving.{replies-told, stops-told}
 use Rattle.vhost_frontend_req_handler.specs.Core.{endpoint_of, server_in}
 use Rattle.vhost_frontend_req_handler.specs.Halves.{Concludes, concluded, stopped}
 use Rattle.vhost_frontend_req_handler.proofs.req_core.FrontendReqCore.conclude.Goals as goal

@@ -4,7 +4,7 @@ use Rattle.vhost_message.specs.BackendReq.{backend_request_of}
 use Rattle.vhost_protocol.specs.Reverse.{ReverseMeets, Server, backend_allows_handles}
 use Rattle.vhost_frontend_req_handler.specs.Core.{endpoint_of, server_in}
 use Rattle.vhost_frontend_req_handler.specs.Handling.{fitting, kept}
-use Rattle.vhost_endpoint.proofs.Serving.{handles-unread, handles-request}
+use Rattle.vhost_connection.proofs.Serving.{handles-unread, handles-request}
 use Rattle.vhost_frontend_req_handler.proofs.req_core.FrontendReqCore.handle_request.Goals as goal
 
 pub returns-in_err-request-clause-handled : goal.returns-in_err-request-clause-handled

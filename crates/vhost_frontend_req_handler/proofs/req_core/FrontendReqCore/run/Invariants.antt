@@ -5,7 +5,7 @@ use Rattle.vhost_message.specs.BackendReq.{backend_request_of}
 use Rattle.vhost_protocol.specs.Reverse.{ReverseMeets, Server, backend_allows_handles}
 use Rattle.vhost_frontend_req_handler.specs.Core.{endpoint_of, server_in}
 use Rattle.vhost_frontend_req_handler.specs.Handling.{fitting, kept}
-use Rattle.vhost_endpoint.proofs.Running.{Ran}
+use Rattle.vhost_connection.proofs.Running.{Ran}
 use Rattle.vhost_frontend_req_handler.proofs.req_core.FrontendReqCore.run.Given as goal
 
 abbrev pub invariant-calls : goal.invariant-calls

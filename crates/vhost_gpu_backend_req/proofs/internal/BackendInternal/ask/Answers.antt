@@ -2,7 +2,7 @@
 use Rattle.std.proofs.Common.{ap, subst, ◌∙◌}
 use Rattle.std.specs.Prelude.{Some}
 use Rattle.vhost_message.specs.Header.{Header}
-use Rattle.vhost_endpoint.specs.State.{state}
+use Rattle.vhost_connection.specs.State.{state}
 use Rattle.vhost_protocol.specs.Gpu.{gpu_take}
 use Rattle.vhost_protocol.specs.IoError.{seen_io_result}
 use Rattle.vhost_gpu_backend_req.specs.Asking.{RecvsRecord}

@@ -1,7 +1,7 @@
 -- A message may be sent, unless the channel was marked as failed.
 use Rattle.std.proofs.Common.{refl, sym, ap, ◌∙◌, arith}
-use Rattle.vhost_endpoint.specs.Talk.{State}
-use Rattle.vhost_endpoint.proofs.Asking.{at-err, at-ok}
+use Rattle.vhost_connection.specs.Talk.{State}
+use Rattle.vhost_connection.proofs.Asking.{at-err, at-ok}
 use Rattle.vhost_gpu_backend_req.specs.Channel.{channel}
 use Rattle.vhost_gpu_backend_req.specs.Halves.NotReady.{refused, no_memory, too_long}
 use Rattle.vhost_gpu_backend_req.proofs.Answered.{alive-is, refusal-is}

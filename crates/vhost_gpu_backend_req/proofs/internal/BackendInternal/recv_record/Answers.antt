@@ -3,7 +3,7 @@ use Rattle.std.proofs.Common.{◌≡◌, false, sym, ◌∙◌, refl}
 use Rattle.std.specs.Prelude.{◌&&◌, not, is_some}
 use Rattle.vhost_message.specs.Header.{is_reply_for}
 use Rattle.vhost_gpu_message.specs.GpuBackendReq.{gpu_request_of}
-use Rattle.vhost_endpoint.specs.State.{state}
+use Rattle.vhost_connection.specs.State.{state}
 use Rattle.vhost_gpu_message.specs.GpuHeader.{gpu_fields_of}
 use Rattle.vhost_gpu_backend_req.proofs.Answered.{record-comes, record-fails}
 use Rattle.vhost_gpu_backend_req.proofs.internal.BackendInternal.recv_record.Goals as goal

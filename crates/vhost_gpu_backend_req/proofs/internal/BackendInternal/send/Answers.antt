@@ -1,8 +1,8 @@
 -- A message is sent, where it may be.
 use Rattle.std.proofs.Common.{ℕ, ◌+◌, length, map, Ok, Err, sym, ap, ◌∙◌, arith}
 use Rattle.vhost_gpu_message.specs.GpuBackendReq.{gpu_request_number}
-use Rattle.vhost_endpoint.specs.State.{state}
-use Rattle.vhost_endpoint.proofs.Errors.{passed-on}
+use Rattle.vhost_connection.specs.State.{state}
+use Rattle.vhost_connection.proofs.Errors.{passed-on}
 use Rattle.vhost_gpu_backend_req.specs.Channel.{Channel}
 use Rattle.vhost_gpu_backend_req.specs.Asking.Unsent.{stopped}
 use Rattle.vhost_gpu_backend_req.proofs.Answered.{row-sends, not-sent, head-with, row}

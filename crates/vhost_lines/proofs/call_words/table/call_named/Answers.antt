@@ -72,6 +72,9 @@ returns-in-set_vring_num c = by_name (texts c.args.args.now) (words_of c.args.te
 pub returns-in-set_vring_base : goal.returns-in-set_vring_base
 returns-in-set_vring_base c = by_name (texts c.args.args.now) (words_of c.args.text) c.in-set_vring_base.is c.set_vring_base.ensures
 
+pub returns-in-set_packed_vring_base : goal.returns-in-set_packed_vring_base
+returns-in-set_packed_vring_base c = by_name (texts c.args.args.now) (words_of c.args.text) c.in-set_packed_vring_base.is c.set_packed_vring_base.ensures
+
 pub returns-in-set_vring_call : goal.returns-in-set_vring_call
 returns-in-set_vring_call c = by_name (texts c.args.args.now) (words_of c.args.text) c.in-set_vring_call.is c.set_vring_call.ensures
 

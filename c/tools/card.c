@@ -1,0 +1,310 @@
+/* SPDX-License-Identifier: Apache-2.0 */
+/* covretin-net: a network card (virtio 1.2, 5.1) whose other end is a tap of this machine, or a socket of another card: covretin-net, or QEMU's
+ * own by -netdev dgram. `covretin-net --help` says how it is called.
+ *
+ * A frame goes one way as the guest sent it, behind no header; the other way behind a header of zeros, but that num_buffers is 1, in one
+ * buffer. A frame that came and for which the guest has no buffer waits, and so do those behind it, where the system keeps them; one that
+ * the other end does not take is dropped, as on a wire. */
+#ifndef _GNU_SOURCE
+#define _GNU_SOURCE
+#endif
+#include "program.h"
+
+#include <errno.h>
+#include <fcntl.h>
+#include <linux/if_tun.h>
+#include <linux/virtio_net.h>
+#include <net/if.h>
+#include <stdio.h>
+#include <string.h>
+#include <sys/ioctl.h>
+#include <sys/random.h>
+#include <sys/socket.h>
+#include <sys/uio.h>
+#include <sys/un.h>
+#include <time.h>
+#include <unistd.h>
+
+enum { RECEIVE, TRANSMIT, QUEUES }; /* as the guest names them */
+enum { SHORTEST = 14, LONGEST = 65535, MOST_FRAMES = 64, MOST_BUFFERS = 16, ADDRESS_BYTES = 6 };
+
+/* What the arguments say. */
+static const char *tap, *local, *remote, *recording;
+static uint8_t address[ADDRESS_BYTES];
+
+static int wire = -1, record = -1;
+static struct sockaddr_un far_end;
+static size_t header_size = sizeof(struct virtio_net_hdr); /* without VERSION_1, where num_buffers is not there */
+static uint8_t waiting[LONGEST];                           /* a frame that came, */
+static size_t waiting_size;                                /* of so many bytes, or none */
+static unsigned long sent, received, dropped;
+
+/* -- What passes -- */
+
+/* Of a file of pcap, which says by its first bytes in which order they are. */
+struct pcap_start {
+    uint32_t magic;
+    uint16_t major, minor;
+    uint32_t zone, accuracy, longest, link;
+};
+
+struct pcap_frame {
+    uint32_t seconds, microseconds, kept, size;
+};
+
+/* Where the file takes no more, as on a full disk, nothing is recorded any more. */
+static void note(const uint8_t *frame, size_t size)
+{
+    struct timespec now;
+    if (record < 0)
+        return;
+    clock_gettime(CLOCK_REALTIME, &now);
+    struct pcap_frame head = {(uint32_t)now.tv_sec, (uint32_t)now.tv_nsec / 1000, (uint32_t)size, (uint32_t)size};
+    struct iovec parts[] = {{&head, sizeof head}, {(void *)(uintptr_t)frame, size}};
+    if (writev(record, parts, 2) == (ssize_t)(sizeof head + size))
+        return;
+    fprintf(stderr, "covretin-net: %s takes no more: %s\n", recording, strerror(errno));
+    close(record);
+    record = -1;
+}
+
+/* -- From the guest -- */
+
+static bool send_frame(const uint8_t *frame, size_t size)
+{
+    const struct sockaddr *to = (const struct sockaddr *)&far_end;
+    if (tap != NULL)
+        return write(wire, frame, size) == (ssize_t)size;
+    return sendto(wire, frame, size, MSG_DONTWAIT | MSG_NOSIGNAL, to, sizeof far_end) == (ssize_t)size;
+}
+
+/* (what may be zeros in the place of memory that was lost is no frame) */
+static void take_frame(void *none, covretin_request *request)
+{
+    static uint8_t frame[LONGEST + 1];
+    size_t before = covretin_request_read(request, NULL, header_size), size = covretin_request_read(request, frame, sizeof frame);
+    bool is_frame = before == header_size && size >= SHORTEST && size <= LONGEST && !covretin_request_is_lost(request);
+    (void)none;
+    if (is_frame)
+        note(frame, size);
+    if (is_frame && send_frame(frame, size))
+        sent++;
+    else
+        dropped++;
+    covretin_request_done(request, 0);
+}
+
+/* -- To the guest -- */
+
+static size_t room_of(const covretin_request *buffer)
+{
+    size_t room = 0;
+    for (size_t i = 0; i < buffer->writable; i++)
+        room += buffer->segments[buffer->readable + i].iov_len;
+    return room;
+}
+
+/* Puts the frame that waits into a buffer of the guest's; those that are too small are given back with nothing in them. False: there is none. */
+static bool give_frame(covretin_device *device)
+{
+    const struct virtio_net_hdr_v1 header = {.num_buffers = 1};
+    for (unsigned i = 0; i < MOST_BUFFERS; i++) {
+        covretin_request *buffer = covretin_device_take(device, RECEIVE);
+        if (buffer == NULL)
+            return false;
+        bool has_room = room_of(buffer) >= header_size + waiting_size;
+        uint32_t written = has_room ? (uint32_t)covretin_request_write(buffer, &header, header_size) : 0;
+        covretin_request_done(buffer, has_room ? written + (uint32_t)covretin_request_write(buffer, waiting, waiting_size) : 0);
+        if (has_room) {
+            received++;
+            return true;
+        }
+    }
+    dropped++;
+    return true;
+}
+
+/* Some frames at a time, so that the guest's own are sent in between. */
+static bool frames_came(void *none, covretin_device *device)
+{
+    (void)none;
+    for (unsigned i = 0; i < MOST_FRAMES; i++) {
+        bool is_new = waiting_size == 0;
+        ssize_t size = is_new ? read(wire, waiting, sizeof waiting) : 0;
+        if (size < 0)
+            return errno == EAGAIN; /* else the tap is gone, and would be readable for ever */
+        if (is_new && size < SHORTEST)
+            continue;
+        waiting_size += (size_t)size;
+        if (is_new)
+            note(waiting, waiting_size);
+        if (!give_frame(device))
+            return false;
+        waiting_size = 0;
+    }
+    return true;
+}
+
+/* -- The card -- */
+
+static void take_features(void *none, uint64_t features, uint64_t protocol_features)
+{
+    (void)none;
+    (void)protocol_features;
+    header_size = features & COVRETIN_DEVICE_VERSION_1 ? sizeof(struct virtio_net_hdr_v1) : sizeof(struct virtio_net_hdr);
+}
+
+static bool read_config(void *none, uint32_t offset, uint8_t *bytes, uint32_t size)
+{
+    struct virtio_net_config space = {.status = VIRTIO_NET_S_LINK_UP};
+    (void)none;
+    memcpy(space.mac, address, sizeof address);
+    if (offset > sizeof space || size > sizeof space - offset)
+        return false;
+    memcpy(bytes, (const uint8_t *)&space + offset, size);
+    return true;
+}
+
+static void tell_end(void *none, enum covretin_error error)
+{
+    printf("a frontend went: %s; %lu frames were sent, %lu received, and %lu dropped\n", covretin_error_text(error), sent, received, dropped);
+    sent = received = dropped = 0;
+    waiting_size = 0;
+    take_features(none, 0, 0);
+}
+
+static covretin_device_calls calls = {.features = (uint64_t)1 << VIRTIO_NET_F_MAC | (uint64_t)1 << VIRTIO_NET_F_STATUS,
+                                      .queues = QUEUES,
+                                      .taken_queues = (uint64_t)1 << RECEIVE,
+                                      .request = take_frame,
+                                      .accepted = take_features,
+                                      .read_config = read_config,
+                                      .input_ready = frames_came,
+                                      .ended = tell_end};
+
+/* -- Its other end -- */
+
+static bool open_tap(void)
+{
+    struct ifreq wanted = {.ifr_flags = IFF_TAP | IFF_NO_PI};
+    memcpy(wanted.ifr_name, tap, strlen(tap));
+    wire = open("/dev/net/tun", O_RDWR | O_NONBLOCK | O_CLOEXEC);
+    return wire >= 0 && ioctl(wire, TUNSETIFF, &wanted) == 0;
+}
+
+/* (a socket that a card before left over is in the way of no other) */
+static bool open_socket(void)
+{
+    struct sockaddr_un near_end = {.sun_family = AF_UNIX};
+    memcpy(near_end.sun_path, local, strlen(local));
+    far_end.sun_family = AF_UNIX;
+    memcpy(far_end.sun_path, remote, strlen(remote));
+    wire = socket(AF_UNIX, SOCK_DGRAM | SOCK_NONBLOCK | SOCK_CLOEXEC, 0);
+    if (wire < 0)
+        return false;
+    if (connect(wire, (const struct sockaddr *)&near_end, sizeof near_end) != 0 && errno == ECONNREFUSED)
+        unlink(local);
+    int fd = socket(AF_UNIX, SOCK_DGRAM | SOCK_NONBLOCK | SOCK_CLOEXEC, 0);
+    close(wire);
+    wire = fd;
+    return wire >= 0 && bind(wire, (const struct sockaddr *)&near_end, sizeof near_end) == 0;
+}
+
+static bool open_recording(void)
+{
+    const struct pcap_start start = {.magic = 0xa1b2c3d4, .major = 2, .minor = 4, .longest = LONGEST, .link = 1};
+    record = open(recording, O_WRONLY | O_CREAT | O_TRUNC | O_APPEND | O_CLOEXEC, 0600);
+    return record >= 0 && write(record, &start, sizeof start) == sizeof start;
+}
+
+static bool has_address(void)
+{
+    static const uint8_t none[ADDRESS_BYTES];
+    if (memcmp(address, none, sizeof none) != 0)
+        return true;
+    bool is_made = getrandom(address, sizeof address, 0) == sizeof address;
+    address[0] = (uint8_t)((address[0] & 0xfc) | 2); /* of one card, and given by no maker */
+    return is_made;
+}
+
+static const char *prepare(void)
+{
+    if (tap != NULL ? !open_tap() : !open_socket())
+        return tap != NULL ? tap : local;
+    calls.input = wire;
+    if (recording != NULL && !open_recording())
+        return recording;
+    return has_address() ? NULL : "an address";
+}
+
+static void finish(void)
+{
+    if (local != NULL)
+        unlink(local);
+}
+
+/* -- Its arguments -- */
+
+static bool take_tap(const char *value)
+{
+    tap = value;
+    return *value != '\0' && strlen(value) < IFNAMSIZ;
+}
+
+static bool is_path(const char *value)
+{
+    return *value != '\0' && strlen(value) < sizeof far_end.sun_path;
+}
+
+static bool take_local(const char *value)
+{
+    local = value;
+    return is_path(value);
+}
+
+static bool take_remote(const char *value)
+{
+    remote = value;
+    return is_path(value);
+}
+
+static bool take_recording(const char *value)
+{
+    recording = value;
+    return *value != '\0';
+}
+
+/* Six numbers, of one card: not all zeros, and not one of many. */
+static bool take_address(const char *value)
+{
+    int end = 0;
+    uint8_t *it = address;
+    static const uint8_t none[ADDRESS_BYTES];
+    return sscanf(value, "%2hhx:%2hhx:%2hhx:%2hhx:%2hhx:%2hhx%n", it, it + 1, it + 2, it + 3, it + 4, it + 5, &end) == ADDRESS_BYTES &&
+           value[end] == '\0' && (*it & 1) == 0 && memcmp(it, none, sizeof none) != 0;
+}
+
+static const char *lacks(void)
+{
+    bool has_socket = local != NULL && remote != NULL;
+    if (tap != NULL)
+        return local != NULL || remote != NULL ? "--tap and --local exclude each other" : NULL;
+    return has_socket ? NULL : "--tap, or --local and --remote, is missing";
+}
+
+int main(int argc, char **argv)
+{
+    static const struct program_option options[] = {
+        {"tap", "NAME", "the other end is this tap interface, which is made where it is not there", take_tap},
+        {"local", "PATH", "the other end sends its frames to this Unix socket, a datagram each,", take_local},
+        {"remote", "PATH", "and takes those of the guest at this one", take_remote},
+        {"mac", "ADDRESS", "six bytes as 52:54:00:12:34:56, else ones that nobody else should have", take_address},
+        {"pcap", "FILE", "writes each frame that passes to a file, as tcpdump and Wireshark read it", take_recording},
+        {NULL, NULL, NULL, NULL},
+    };
+    static const struct program card = {
+        .name = "covretin-net", .title = "A network card", .options = options, .lacks = lacks, .calls = &calls,
+        .capabilities = "{\"type\": \"net\"}", .prepare = prepare, .finish = finish};
+    (void)argc;
+    return program_run(&card, argv);
+}

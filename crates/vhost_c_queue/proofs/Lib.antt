@@ -1,0 +1,2 @@
+mod Gone
+mod Kept

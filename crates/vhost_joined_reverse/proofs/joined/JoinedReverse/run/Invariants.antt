@@ -1,0 +1,11 @@
+use Rattle.std.proofs.Common.{◌≤◌, ◌+◌, ◌-◌, length, take, vec_len}
+use Rattle.std.specs.Prelude.{vec_capacity}
+use Rattle.vhost_joined.proofs.Running.{Ran}
+use Rattle.vhost_joined_reverse.specs.Joined.{StepsBy}
+use Rattle.vhost_joined_reverse.proofs.joined.JoinedReverse.run.Given as goal
+
+abbrev pub invariant-loop-call : goal.invariant-loop-call
+invariant-loop-call g l = record {
+  ran : Ran (StepsBy g.D.VhostUserFrontendReqHandlerMut.gives) l.fn.self (take l.call-index l.calls) l.fn.out.items l.out.items l.self;
+  room : vec_len l.out + (length l.calls - l.call-index) ≤ vec_capacity l.out;
+}

@@ -1,8 +1,0 @@
-//! Both sides of the backend channel joined over links in memory, in lockstep.
-#![tactic(auto)]
-
-mod joined;
-mod sides;
-
-pub use joined::{JoinedReverse, ReverseCall};
-pub use vhost_pair::{Halt, Stop};

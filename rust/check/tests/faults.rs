@@ -1,0 +1,186 @@
+// SPDX-License-Identifier: Apache-2.0
+//! Faults that are planted into a device, each found by the cases that name it and by no other; and how the program is called.
+use std::collections::BTreeSet;
+use std::fs;
+use std::path::PathBuf;
+use std::process::{Child, Command, Output, Stdio};
+
+/// The cases that are tried with each fault.
+const CASES: &str = "HDR-01,HDR-04,NEG-03,NEG-04,NEG-10,UNK-03,ACK-05,ACK-06,ACK-08,ACK-17,MEM-01,MEM-20,MEM-26,MEM-30,RNG-01,RNG-02,RNG-04,RNG-05,\
+                     RNG-06,RNG-07,RNG-08,RNG-20,RNG-51,CFG-01,CFG-07,LOG-05,INF-01,PCP-02,PCP-07,RST-03,RST-04,SUS-01,CON-06,PRG-01";
+
+fn checker() -> Command {
+    let mut command = Command::new(env!("CARGO_BIN_EXE_covretin-check"));
+    command.arg("--as-root");
+    command
+}
+
+fn device() -> String {
+    concat!(env!("CARGO_MANIFEST_DIR"), "/tests/faulty.py").to_string()
+}
+
+/// Runs the checker over the device with a fault.
+fn run(options: &[&str], fault: &str) -> Output {
+    let device = device();
+    checker().args(options).args(["--type=rng", "--limit=0.7", "--", "python3", &device, "%s", fault]).output().expect("it runs")
+}
+
+/// The cases that a run says have failed, each with its verdict; a NOTE is no failure.
+fn failed(output: &Output) -> BTreeSet<String> {
+    let text = String::from_utf8_lossy(&output.stdout).into_owned();
+    let found = text.lines().filter_map(|line| {
+        let mut words = line.split_whitespace();
+        let (id, verdict) = (words.next()?, words.next()?);
+        let is_failure = ["MUST", "SHOULD", "CRASH", "HANG", "TROUBLE"].contains(&verdict);
+        (is_failure && id.contains('-')).then(|| format!("{id} {verdict}"))
+    });
+    found.collect()
+}
+
+/// Each fault is found by just these.
+fn is_found(fault: &str, expected: &[&str]) {
+    let output = run(&[&format!("--only={CASES}")], fault);
+    let expected: BTreeSet<String> = expected.iter().map(|it| it.to_string()).collect();
+    let text = String::from_utf8_lossy(&output.stdout).into_owned();
+    assert_eq!(failed(&output), expected, "{fault}:\n{text}");
+    let is_fault = expected.iter().any(|it| !it.ends_with("SHOULD"));
+    assert_eq!(output.status.code(), Some(i32::from(is_fault)), "{fault}:\n{text}");
+}
+
+macro_rules! faults {
+    ($($name:ident: $fault:literal => [$($case:literal),*];)*) => {$(
+        #[test]
+        fn $name() {
+            is_found($fault, &[$($case),*]);
+        }
+    )*};
+}
+
+faults! {
+    no_fault: "" => [];
+    short_reply: "a reply is too short" => ["NEG-10 SHOULD"];
+    acknowledged_twice: "an acknowledgement twice" => ["ACK-06a MUST"];
+    acknowledged_unasked: "an acknowledgement that nobody wants" => ["ACK-17b MUST"];
+    not_acknowledged: "no acknowledgement" => ["ACK-08a MUST"];
+    reply_of_another: "a reply of another request" => ["MEM-20 MUST"];
+    disabled_is_served: "a disabled ring is served" => ["RNG-04 MUST", "RNG-51 MUST"];
+    descriptor_is_kept: "a descriptor is kept" => ["MEM-26 MUST"];
+    addresses_of_the_frontend: "the frontend's addresses" => ["PCP-02 MUST", "PCP-07 MUST"];
+    stopped_is_served: "a stopped ring is served" => ["RNG-08 MUST", "SUS-01 MUST"];
+    base_is_not_counted: "the base is not counted" => ["RNG-07 MUST"];
+    no_call: "the call is not signalled" => ["RNG-02 MUST"];
+    pages_are_not_marked: "pages are not marked" => ["LOG-05 SHOULD"];
+    configuration_of_another_size: "a configuration of another size" => ["CFG-01 MUST"];
+    read_only_is_written: "a read-only field is written" => ["CFG-07 SHOULD"];
+    file_is_too_short: "a file that is too short" => ["INF-01 MUST"];
+    status_is_forgotten: "the status is forgotten" => ["RST-04 MUST"];
+    reset_leaves_rings: "a reset leaves the rings" => ["RST-03 MUST"];
+    crash: "a ring that is not there crashes" => ["RNG-20 CRASH"];
+    hang: "it waits for ever" => ["UNK-03 HANG"];
+    memory_stays_mapped: "old memory stays mapped" => ["MEM-30 SHOULD"];
+    connection_leaves_a_descriptor: "a connection leaves a descriptor" => ["CON-06 SHOULD"];
+    features_change: "features change" => ["NEG-04 SHOULD"];
+    ring_without_bit_30: "a ring without bit 30 stays disabled" => ["RNG-05 MUST"];
+    body_in_parts: "a body in parts is refused" => ["HDR-04 SHOULD"];
+    does_not_end: "it does not end" => ["PRG-01 SHOULD"];
+    enabled_is_forgotten: "what was enabled is forgotten" => ["RNG-05 MUST", "RNG-06 MUST"];
+}
+
+/// A folder of a test's own.
+fn folder(name: &str) -> PathBuf {
+    let folder = std::env::temp_dir().join(format!("covretin-check-{name}.{}", std::process::id()));
+    fs::create_dir_all(&folder).expect("a folder");
+    folder
+}
+
+#[test]
+fn known_verdicts_are_no_faults() {
+    let folder = folder("known");
+    let path = |name: &str| folder.join(name).display().to_string();
+    fs::write(path("known"), "# known\nRST-04 MUST # later\n").expect("written");
+    let [expect, junit, json, html] = ["expect=known", "junit=xml", "json=json", "html=html"].map(|it| {
+        let (option, name) = it.split_once('=').expect("both");
+        format!("--{option}={}", path(name))
+    });
+    let fault = "the status is forgotten";
+    let output = run(&["--only=RST-04,RST-05", &expect, &junit, &json, &html], fault);
+    assert_eq!(output.status.code(), Some(0), "{output:?}");
+    assert!(String::from_utf8_lossy(&output.stdout).contains("(as expected)"));
+    assert_eq!(run(&["--only=RST-04"], fault).status.code(), Some(1));
+    let read = |name: &str| fs::read_to_string(path(name)).expect("a report");
+    assert!(read("xml").contains("failures=\"0\"") && read("xml").contains("RST-05"));
+    assert!(read("json").contains("\"id\": \"RST-04\", \"verdict\": \"MUST\"") && read("json").contains("> 28000000"));
+    assert!(read("html").contains("<tr id=\"RST-04\">"));
+    fs::remove_dir_all(folder).expect("removed");
+}
+
+/// A device that is ended with the test.
+struct Listening(Child);
+
+impl Drop for Listening {
+    fn drop(&mut self) {
+        let _ = self.0.kill();
+        let _ = self.0.wait();
+    }
+}
+
+#[test]
+fn a_socket_is_checked() {
+    let folder = folder("socket");
+    let path = folder.join("socket");
+    let device = Command::new("python3").arg(device()).arg(&path).stdin(Stdio::null()).spawn().expect("it starts");
+    let device = Listening(device);
+    while !path.exists() {
+        std::thread::yield_now();
+    }
+    let output = checker().args(["--type=rng", "--only=HDR-01,RNG-01,MEM-26,PRG"]).arg(&path).output().expect("it runs");
+    let text = String::from_utf8_lossy(&output.stdout).into_owned();
+    assert_eq!(output.status.code(), Some(0), "{text}");
+    assert!(text.contains("no fault seen in 3 cases"), "{text}");
+    drop(device);
+    let gone = checker().args(["--limit=0.1", "--only=HDR-01"]).arg(&path).output().expect("it runs");
+    assert_eq!(gone.status.code(), Some(3));
+    fs::remove_dir_all(folder).expect("removed");
+}
+
+#[test]
+fn statuses_say_of_which_kind_an_error_is() {
+    let status = |words: &[&str]| checker().args(words).output().expect("it runs").status.code();
+    assert_eq!(status(&["--what"]), Some(2));
+    assert_eq!(status(&["--only=NONE-1", "--", "true", "%s"]), Some(2));
+    assert_eq!(status(&["--", "/nowhere/program", "%s"]), Some(3));
+    assert_eq!(status(&["--", "true", "%s"]), Some(3));
+    assert_eq!(status(&["--expect=/nowhere/file", "--", "true", "%s"]), Some(4));
+}
+
+#[test]
+fn cases_are_listed_and_explained() {
+    let list = checker().arg("--list").output().expect("it runs");
+    let text = String::from_utf8_lossy(&list.stdout).into_owned();
+    assert!(text.lines().count() > 317 && text.contains("\ttodo"));
+    let explained = checker().args(["--explain", "RNG-04"]).output().expect("it runs");
+    let text = String::from_utf8_lossy(&explained.stdout).into_owned();
+    assert!(text.starts_with("RNG-04 MUST") && text.contains("without causing any side effects"), "{text}");
+    assert_eq!(checker().args(["--explain", "RNG-999"]).output().expect("it runs").status.code(), Some(2));
+}
+
+/// A frontend that waits for its reply for ever, and crashes by one that is too short.
+const FRONTEND: &str = "\
+import os, signal, socket, struct, sys
+backend = socket.socket(socket.AF_UNIX)
+backend.connect(sys.argv[1])
+backend.sendall(struct.pack('<III', 1, 1, 0))
+if len(backend.recv(20)) == 16:
+    os.kill(os.getpid(), signal.SIGSEGV)
+";
+
+#[test]
+fn a_frontend_that_hangs_is_found() {
+    let options = ["--frontend", "--limit=0.3", "--only=FE-00,FE-01,FE-02,FE-06"];
+    let output = checker().args(options).args(["--", "python3", "-c", FRONTEND, "%s"]).output().expect("it runs");
+    let expected: BTreeSet<String> = ["FE-01 HANG", "FE-06 CRASH"].iter().map(|it| it.to_string()).collect();
+    assert_eq!(failed(&output), expected, "{}", String::from_utf8_lossy(&output.stdout));
+    assert_eq!(output.status.code(), Some(1));
+    let missing = checker().args(["--frontend", "--", "/nowhere/program", "%s"]).output().expect("it runs");
+    assert_eq!(missing.status.code(), Some(3));
+}

@@ -1,0 +1,488 @@
+#!/usr/bin/env python3
+# SPDX-License-Identifier: Apache-2.0
+"""A source of entropy that keeps the protocol, but for one fault: faulty.py SOCKET [FAULT]
+
+Each FAULT is a word below, where it is planted. Without one the checker finds nothing in it.
+"""
+import ctypes
+import mmap
+import os
+import select
+import signal
+import socket
+import struct
+import sys
+
+NAMES = """GET_FEATURES SET_FEATURES SET_OWNER RESET_OWNER SET_MEM_TABLE SET_LOG_BASE SET_LOG_FD SET_VRING_NUM SET_VRING_ADDR SET_VRING_BASE
+GET_VRING_BASE SET_VRING_KICK SET_VRING_CALL SET_VRING_ERR GET_PROTOCOL_FEATURES SET_PROTOCOL_FEATURES GET_QUEUE_NUM SET_VRING_ENABLE SEND_RARP
+NET_SET_MTU SET_BACKEND_REQ_FD IOTLB_MSG SET_VRING_ENDIAN GET_CONFIG SET_CONFIG CREATE_CRYPTO_SESSION CLOSE_CRYPTO_SESSION POSTCOPY_ADVISE
+POSTCOPY_LISTEN POSTCOPY_END GET_INFLIGHT_FD SET_INFLIGHT_FD GPU_SET_SOCKET RESET_DEVICE VRING_KICK GET_MAX_MEM_SLOTS ADD_MEM_REG REM_MEM_REG
+SET_STATUS GET_STATUS""".split()
+LOG_ALL, PROTOCOL_FEATURES = 1 << 26, 1 << 30
+FEATURES = LOG_ALL | PROTOCOL_FEATURES | 1 << 32
+REPLY_ACK, PAGEFAULT = 1 << 3, 1 << 8
+# MQ, LOG_SHMFD, REPLY_ACK, BACKEND_REQ, PAGEFAULT, CONFIG, INFLIGHT_SHMFD, RESET_DEVICE, CONFIGURE_MEM_SLOTS, STATUS
+PROTOCOL = sum(1 << bit for bit in (0, 1, 3, 5, 8, 9, 12, 13, 15, 16))
+NEED_REPLY, REPLY, VERSION = 8, 4, 1
+NEXT, WRITE = 1, 2
+PAGE = 4096
+SLOTS = 32
+SPACE = 16
+USERFAULTFD = {"x86_64": 323, "aarch64": 282}[os.uname().machine]
+FAULT = sys.argv[2] if len(sys.argv) > 2 else ""
+
+
+class Refused(Exception):
+    """The request is wrong."""
+
+
+class Gone(Exception):
+    """The connection has ended, or has to."""
+
+
+def need(holds):
+    if not holds:
+        raise Refused
+
+
+def close(descriptors):
+    for it in descriptors:
+        os.close(it)
+
+
+class Region:
+    def __init__(self, values, descriptor):
+        self.guest, self.size, self.user, offset = values
+        need(0 < self.size < 1 << 40 and self.guest + self.size < 1 << 64 and offset % PAGE == 0)
+        try:
+            need(offset + self.size <= os.fstat(descriptor).st_size)
+            self.map = mmap.mmap(descriptor, self.size, offset=offset)
+        except (OSError, ValueError, OverflowError) as cause:
+            raise Refused from cause
+
+    def place(self):
+        return ctypes.addressof(ctypes.c_char.from_buffer(self.map))
+
+
+class Ring:
+    def __init__(self):
+        self.size, self.base, self.used, self.places, self.log = 0, 0, 0, None, None
+        self.kick = self.call = self.error = None
+        self.enabled = self.started = self.broken = False
+
+    def close(self):
+        close([it for it in (self.kick, self.call, self.error) if it is not None])
+
+
+class Session:
+    """A connection of a frontend."""
+
+    def __init__(self, connection):
+        self.connection, self.features, self.protocol, self.status = connection, 0, 0, 0
+        self.regions, self.rings, self.log, self.channel, self.userfault = [], [Ring()], None, None, None
+        self.listening = self.awaiting = self.accepted = False
+
+    # The stream of messages.
+
+    def read(self, count, descriptors, whole=True):
+        data = b""
+        while len(data) < count:
+            if not whole and not select.select([self.connection], [], [], 0)[0]:
+                raise Gone
+            part, more, _, _ = socket.recv_fds(self.connection, count - len(data), 32)
+            descriptors += more
+            if not part:
+                raise Gone
+            data += part
+        return data
+
+    def send(self, code, body, descriptors=()):
+        head = struct.pack("<III", code, VERSION | REPLY, len(body))
+        socket.send_fds(self.connection, [head + body], descriptors)
+
+    def next(self):
+        descriptors = []
+        try:
+            code, flags, size = struct.unpack("<III", self.read(12, descriptors))
+            if flags & 7 != VERSION or flags >> 4 or size > 4096:
+                raise Gone
+            body = self.read(size, descriptors, whole=FAULT != "a body in parts is refused")
+        except Gone:
+            close(descriptors)
+            raise
+        self.take(code, flags, body, descriptors)
+
+    def take(self, code, flags, body, descriptors):
+        name = NAMES[code - 1] if 0 < code <= len(NAMES) else "unknown"
+        if name == "unknown" and FAULT == "it waits for ever":
+            while True:
+                pass
+        reply, given, result = None, (), 0
+        try:
+            call = getattr(self, name.lower(), None)
+            need(call)
+            reply = call(body, descriptors)
+        except (Refused, struct.error):
+            result = 1
+        finally:
+            if FAULT != "a descriptor is kept" or name != "REM_MEM_REG":
+                close(descriptors)
+        if isinstance(reply, tuple):
+            reply, given = reply
+        if result and name.startswith(("GET_", "SET_LOG_BASE", "POSTCOPY_ADVISE", "POSTCOPY_END")):
+            raise Gone
+        self.answer(code, name, flags, reply, given, result)
+        close(given)
+
+    def answer(self, code, name, flags, reply, given, result):
+        if reply is not None:
+            if FAULT == "a reply is too short" and name == "GET_QUEUE_NUM":
+                reply = reply[:4]
+            self.send(1 if FAULT == "a reply of another request" and name == "GET_MAX_MEM_SLOTS" else code, reply, given)
+            return
+        wanted = flags & NEED_REPLY and self.protocol & REPLY_ACK and not (FAULT == "no acknowledgement" and name == "SET_VRING_ERR")
+        if wanted or FAULT == "an acknowledgement that nobody wants" and name == "RESET_DEVICE":
+            self.send(code, struct.pack("<Q", result))
+            if FAULT == "an acknowledgement twice" and name == "SET_VRING_BASE":
+                self.send(code, struct.pack("<Q", result))
+
+    # Features.
+
+    def get_features(self, _body, _descriptors):
+        Session.asked += 1
+        return struct.pack("<Q", FEATURES ^ (1 << 35 if FAULT == "features change" and Session.asked % 2 else 0))
+
+    def set_features(self, body, _descriptors):
+        (features,) = struct.unpack("<Q", body)
+        need(not features & ~(FEATURES | 1 << 35))
+        self.features, self.accepted = features, True
+        if not features & PROTOCOL_FEATURES:
+            self.rings[0].enabled = FAULT != "a ring without bit 30 stays disabled"
+
+    def get_protocol_features(self, _body, _descriptors):
+        return struct.pack("<Q", PROTOCOL)
+
+    def set_protocol_features(self, body, _descriptors):
+        (features,) = struct.unpack("<Q", body)
+        need(not features & ~PROTOCOL)
+        self.protocol = features
+
+    def set_owner(self, _body, _descriptors):
+        pass
+
+    reset_owner = set_owner
+
+    def get_queue_num(self, _body, _descriptors):
+        return struct.pack("<Q", 1)
+
+    # Memory.
+
+    def add(self, values, descriptor):
+        region = Region(values, descriptor)
+        for other in self.regions:
+            need(region.guest >= other.guest + other.size or other.guest >= region.guest + region.size)
+            need(region.user >= other.user + other.size or other.user >= region.user + region.size)
+        self.regions.append(region)
+        return region
+
+    def set_mem_table(self, body, descriptors):
+        if self.awaiting:
+            self.awaiting = False
+            return None
+        count, _ = struct.unpack("<II", body[:8])
+        need(count <= SLOTS and len(body) == 8 + 32 * count and len(descriptors) == count)
+        values = [struct.unpack("<QQQQ", body[8 + 32 * at:40 + 32 * at]) for at in range(count)]
+        before, self.regions = self.regions, []
+        if FAULT == "old memory stays mapped":
+            KEPT.extend(before)
+        for each, descriptor in zip(values, descriptors):
+            self.add(each, descriptor)
+        return self.bases(body, 8) if self.listening else None
+
+    def bases(self, body, at):
+        """In postcopy: where the regions are mapped."""
+        self.awaiting = True
+        out = bytearray(body)
+        for region in self.regions if at == 8 else self.regions[-1:]:
+            if FAULT != "the frontend's addresses":
+                out[at + 16:at + 24] = struct.pack("<Q", region.place())
+            at += 32
+        return bytes(out)
+
+    def get_max_mem_slots(self, _body, _descriptors):
+        return struct.pack("<Q", SLOTS)
+
+    def add_mem_reg(self, body, descriptors):
+        if self.awaiting:
+            self.awaiting = False
+            return None
+        need(len(body) == 40 and len(descriptors) == 1 and len(self.regions) < SLOTS)
+        self.add(struct.unpack("<QQQQ", body[8:]), descriptors[0])
+        return self.bases(body, 8) if self.listening else None
+
+    def rem_mem_reg(self, body, _descriptors):
+        need(len(body) == 40)
+        guest, size, user, _ = struct.unpack("<QQQQ", body[8:])
+        found = [it for it in self.regions if (it.guest, it.size, it.user) == (guest, size, user)]
+        need(found)
+        self.regions.remove(found[0])
+
+    # Rings.
+
+    def ring(self, body, form="<II"):
+        index, value = struct.unpack(form, body)
+        if index and FAULT == "a ring that is not there crashes":
+            os.kill(os.getpid(), signal.SIGSEGV)
+        need(index < len(self.rings))
+        return self.rings[index], value
+
+    def set_vring_num(self, body, _descriptors):
+        ring, size = self.ring(body)
+        need(0 < size <= 32768 and not size & size - 1)
+        ring.size = size
+
+    def set_vring_base(self, body, _descriptors):
+        ring, base = self.ring(body)
+        ring.base = ring.used = base & 0xffff
+
+    def set_vring_addr(self, body, _descriptors):
+        index, flags, table, used, available, log = struct.unpack("<IIQQQQ", body)
+        need(index < len(self.rings))
+        places = [self.of_user(it) for it in (table, available, used)]
+        self.rings[index].places, self.rings[index].log = places, log if flags & 1 else None
+
+    def get_vring_base(self, body, _descriptors):
+        ring, _ = self.ring(body)
+        if FAULT != "a stopped ring is served":
+            ring.started = False
+        return struct.pack("<II", 0, 0 if FAULT == "the base is not counted" else ring.base)
+
+    def event(self, body, descriptors):
+        (value,) = struct.unpack("<Q", body)
+        need(value & 0xff < len(self.rings) and value >> 9 == 0 and len(descriptors) == (0 if value & 256 else 1))
+        kept = os.dup(descriptors[0]) if descriptors else None
+        return self.rings[value & 0xff], kept
+
+    def set_vring_kick(self, body, descriptors):
+        ring, kept = self.event(body, descriptors)
+        if ring.kick is not None:
+            os.close(ring.kick)
+        ring.kick, ring.started, ring.broken = kept, True, False
+        if FAULT == "what was enabled is forgotten":
+            ring.enabled = False
+        self.process(ring)
+
+    def set_vring_call(self, body, descriptors):
+        ring, kept = self.event(body, descriptors)
+        if ring.call is not None:
+            os.close(ring.call)
+        ring.call = kept
+
+    def set_vring_err(self, body, descriptors):
+        ring, kept = self.event(body, descriptors)
+        if ring.error is not None:
+            os.close(ring.error)
+        ring.error = kept
+
+    def set_vring_enable(self, body, _descriptors):
+        ring, value = self.ring(body)
+        need(value < 2)
+        ring.enabled = bool(value)
+        self.process(ring)
+
+    def of_user(self, address):
+        for it in self.regions:
+            if it.user <= address < it.user + it.size:
+                return it.map, address - it.user
+        raise Refused
+
+    def of_guest(self, address, length):
+        for it in self.regions:
+            if it.guest <= address and address + length <= it.guest + it.size:
+                return it.map, address - it.guest
+        raise Refused
+
+    def process(self, ring):
+        """Carries out what is available, where the ring is started and enabled."""
+        enabled = ring.enabled or FAULT == "a disabled ring is served"
+        if not (ring.started and enabled and ring.places and ring.size) or ring.broken:
+            return
+        try:
+            self.carry_out(ring)
+        except (Refused, struct.error, ValueError):
+            ring.broken = True
+            if ring.error is not None:
+                os.eventfd_write(ring.error, 1)
+
+    def carry_out(self, ring):
+        (table, at), (available, first), (used, last) = ring.places
+        (index,) = struct.unpack("<H", available[first + 2:first + 4])
+        need((index - ring.base) % 65536 <= ring.size)
+        while ring.base != index:
+            slot = first + 4 + 2 * (ring.base % ring.size)
+            (head,) = struct.unpack("<H", available[slot:slot + 2])
+            filled = self.fill(table, at, ring.size, head)
+            slot = last + 4 + 8 * (ring.used % ring.size)
+            used[slot:slot + 8] = struct.pack("<II", head, filled)
+            ring.base, ring.used = ring.base + 1 & 0xffff, ring.used + 1 & 0xffff
+            used[last + 2:last + 4] = struct.pack("<H", ring.used)
+            if ring.log is not None:
+                self.mark(ring.log + 4 + 8 * (ring.used % ring.size))
+                self.mark(ring.log + 2)
+            if ring.call is not None and FAULT != "the call is not signalled":
+                os.eventfd_write(ring.call, 1)
+
+    def fill(self, table, at, size, head):
+        filled = 0
+        for _ in range(size):
+            need(head < size)
+            address, length, flags, following = struct.unpack("<QIHH", table[at + 16 * head:at + 16 * head + 16])
+            need(not flags & 4 and length)
+            if flags & WRITE:
+                place, offset = self.of_guest(address, length)
+                place[offset:offset + length] = os.urandom(length)
+                self.mark(address, length)
+                filled += length
+            if not flags & NEXT:
+                return filled
+            head = following
+        raise Refused
+
+    # The log.
+
+    def set_log_base(self, body, descriptors):
+        size, offset = struct.unpack("<QQ", body)
+        need(len(descriptors) == 1 and 0 < size < 1 << 40 and offset % PAGE == 0)
+        try:
+            self.log = mmap.mmap(descriptors[0], size, offset=offset)
+        except (OSError, ValueError, OverflowError) as cause:
+            raise Refused from cause
+        return b""
+
+    def set_log_fd(self, _body, _descriptors):
+        pass
+
+    def mark(self, address, length=1):
+        if self.log is None or not self.features & LOG_ALL or FAULT == "pages are not marked":
+            return
+        for page in range(address // PAGE, (address + length - 1) // PAGE + 1):
+            if page // 8 < len(self.log):
+                self.log[page // 8] |= 1 << page % 8
+
+    # The configuration space, the status, and a reset.
+
+    def get_config(self, body, _descriptors):
+        offset, size, flags = struct.unpack("<III", body[:12])
+        if offset + size > SPACE or len(body) != 12 + size:
+            return b""
+        if FAULT == "a configuration of another size":
+            size -= 1
+        return struct.pack("<III", offset, size, flags) + bytes(CONFIGURATION[offset:offset + size])
+
+    def set_config(self, body, _descriptors):
+        offset, size, flags = struct.unpack("<III", body[:12])
+        need(offset + size <= SPACE and len(body) == 12 + size and (flags == 1 or FAULT == "a read-only field is written"))
+        CONFIGURATION[offset:offset + size] = body[12:]
+
+    def get_status(self, _body, _descriptors):
+        return struct.pack("<Q", 0 if FAULT == "the status is forgotten" else self.status)
+
+    def set_status(self, body, _descriptors):
+        (self.status,) = struct.unpack("<Q", body)
+
+    def reset_device(self, _body, _descriptors):
+        if FAULT != "a reset leaves the rings":
+            self.rings[0].close()
+            self.rings, self.status = [Ring()], 0
+
+    # The channel, the inflight region, and postcopy.
+
+    def set_backend_req_fd(self, _body, descriptors):
+        need(len(descriptors) == 1)
+        if self.channel is not None:
+            os.close(self.channel)
+        self.channel = os.dup(descriptors[0])
+
+    def get_inflight_fd(self, body, _descriptors):
+        _, _, queues, size = struct.unpack("<QQHH4x", body)
+        need(queues == 1 and size)
+        length = 16 + 16 * size
+        file = os.memfd_create("inflight")
+        os.ftruncate(file, PAGE if FAULT == "a file that is too short" else length + PAGE)
+        if FAULT == "a file that is too short":
+            length = 2 * PAGE
+        return struct.pack("<QQHH4x", length, 0, queues, size), [file]
+
+    def set_inflight_fd(self, body, descriptors):
+        length, offset, queues, size = struct.unpack("<QQHH4x", body)
+        need(len(descriptors) == 1 and queues == 1 and length >= 16 + 16 * size)
+        need(offset + length <= os.fstat(descriptors[0]).st_size)
+
+    def postcopy_advise(self, _body, _descriptors):
+        need(self.userfault is None)
+        self.userfault = userfault()
+        need(self.userfault >= 0)
+        return b"", [os.dup(self.userfault)]
+
+    def postcopy_listen(self, _body, _descriptors):
+        need(self.userfault is not None and not self.regions)
+        self.listening = True
+
+    def postcopy_end(self, _body, _descriptors):
+        need(self.listening)
+        self.listening = False
+        return struct.pack("<Q", 0)
+
+    # Its run.
+
+    def run(self):
+        while True:
+            kicks = [it.kick for it in self.rings if it.kick is not None and it.started]
+            for ready in select.select([self.connection, *kicks], [], [])[0]:
+                if ready is self.connection:
+                    self.next()
+                    break
+                os.read(ready, 8)
+                self.process(self.rings[0])
+
+    def close(self):
+        self.connection.close()
+        self.rings[0].close()
+        close([it for it in (self.channel, self.userfault) if it is not None and it >= 0])
+        if FAULT == "a connection leaves a descriptor":
+            os.eventfd(0)
+
+
+def userfault():
+    """A userfaultfd for the faults of programs alone, which needs no privilege; a negative number where there is none."""
+    return ctypes.CDLL(None).syscall(USERFAULTFD, os.O_CLOEXEC | os.O_NONBLOCK | 1)
+
+
+Session.asked = 0
+TRIED = userfault()
+if TRIED < 0:
+    PROTOCOL &= ~PAGEFAULT
+else:
+    os.close(TRIED)
+CONFIGURATION = bytearray(range(SPACE))
+KEPT = []
+
+
+def main():
+    if FAULT == "it does not end":
+        signal.signal(signal.SIGTERM, signal.SIG_IGN)
+    else:
+        signal.signal(signal.SIGTERM, signal.SIG_DFL)
+    listener = socket.socket(socket.AF_UNIX)
+    listener.bind(sys.argv[1])
+    listener.listen(8)
+    while True:
+        session = Session(listener.accept()[0])
+        try:
+            session.run()
+        except (Gone, OSError):
+            pass
+        session.close()
+
+
+main()
