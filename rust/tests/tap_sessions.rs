@@ -101,7 +101,7 @@ impl Tap {
         let replay =
             Command::new(env!("CARGO_BIN_EXE_covretin-tap")).arg("--replay").arg(folder.join("record")).output().unwrap();
         remove_dir_all(&folder).unwrap();
-        assert_eq!(without_spans(&shown), without_spans(&judged(&replay).0));
+        assert_eq!(shown, judged(&replay).0);
         (shown, found)
     }
 }
@@ -114,11 +114,6 @@ fn judged(output: &Output) -> (String, Vec<String>) {
     assert_eq!("", String::from_utf8_lossy(&output.stderr));
     assert_eq!(Some(i32::from(!found.is_empty())), output.status.code(), "{shown}");
     (shown, found)
-}
-
-/// Lines without those that have a span of time, which is rounded in a recording.
-fn without_spans(shown: &str) -> Vec<&str> {
-    shown.lines().filter(|line| !line.starts_with("= longest") && !line.ends_with(" s later")).collect()
 }
 
 /// Serves a device over the tap, and makes these calls: the errors that it met.

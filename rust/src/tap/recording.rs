@@ -30,9 +30,14 @@ pub(super) fn line_of(event: &Event) -> String {
     Json::object(fields).to_string()
 }
 
-/// A time to a ten thousandth of a second.
+/// A time to a ten thousandth of a second. Each event has such a time, so that its recording shows what was shown of itself.
+pub(super) fn rounded(seconds: f64) -> f64 {
+    (seconds * 1e4).round() / 1e4
+}
+
+/// The same of a span between two such times.
 pub(super) fn time_of(seconds: f64) -> Json {
-    Json::Number((seconds * 1e4).round() / 1e4)
+    Json::Number(rounded(seconds))
 }
 
 fn message_fields(message: &Message) -> Vec<(&'static str, Json)> {
@@ -136,6 +141,17 @@ mod tests {
 
     fn event(what: What) -> Event {
         Event { time: 0.3858, session: 1, what }
+    }
+
+    /// A time between two ten thousandths would be shown as the one, and recorded as the other.
+    #[test]
+    fn a_recording_has_the_times_that_were_shown() {
+        let between = || (0..20_000).map(|tick| f64::from(tick) / 1e4 + 0.5e-4);
+        assert!(between().any(|time| format!("{time:.4}") != format!("{:.4}", rounded(time))));
+        for time in between().map(rounded) {
+            let recorded = event_of(line_of(&Event { time, ..event(What::Connected(Ok(()))) }).as_bytes()).unwrap();
+            assert_eq!((time, format!("{time:.4}")), (recorded.time, format!("{:.4}", recorded.time)));
+        }
     }
 
     #[test]

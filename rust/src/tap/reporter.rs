@@ -7,6 +7,7 @@ use std::sync::Arc;
 use std::time::{Duration, Instant};
 
 use super::event::{Event, What};
+use super::recording::rounded;
 
 /// How much may wait to be looked at.
 const MOST_WAITING: usize = 0x4000;
@@ -90,7 +91,7 @@ impl Reporter {
         if self.is_lost.load(Ordering::Relaxed) {
             return;
         }
-        let event = Event { time: self.started.elapsed().as_secs_f64(), session: self.session, what };
+        let event = Event { time: rounded(self.started.elapsed().as_secs_f64()), session: self.session, what };
         if self.notes.try_send(Some(event)).is_err() {
             self.is_lost.store(true, Ordering::Relaxed);
         }
