@@ -42,9 +42,9 @@ extern "C" {
 #endif
 
 /* The version of this header. covretin_version() returns that of the library. */
-#define COVRETIN_VERSION "0.2.0"
+#define COVRETIN_VERSION "0.3.0"
 /* The same as a number, to be compared: two hexadecimal digits for each part. */
-#define COVRETIN_VERSION_NUMBER 0x000200
+#define COVRETIN_VERSION_NUMBER 0x000300
 
 /* The greatest number of descriptors that come with a message. */
 #define COVRETIN_MAX_FDS 32

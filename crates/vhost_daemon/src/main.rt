@@ -18,7 +18,7 @@ pub use vhost_sockets::serve;
 use vhost_sockets::{ClaimError, Options, SocketPath, serve_path};
 
 /// What `--version` says.
-const VERSION: &str = "vhost-daemon 0.2.0";
+const VERSION: &str = "vhost-daemon 0.3.0";
 
 /// What `--print-capabilities` says: the type of device, which has no features that are named.
 const CAPABILITIES: &str = "{\n  \"type\": \"net\"\n}";
