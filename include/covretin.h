@@ -388,6 +388,7 @@ enum covretin_error covretin_ask_set_config(covretin_session *session, uint32_t 
 enum covretin_error covretin_ask_set_backend_request_fd(covretin_session *session, int32_t fd);
 /* name is a UUID: name_len is 16. */
 enum covretin_error covretin_ask_get_shared_object(covretin_session *session, const uint8_t *name, size_t name_len);
+/* For so many queues of this size. INVALID_PARAM: one of both is 0; with COVRETIN_PROFILE_VHOST that is sent. */
 enum covretin_error covretin_ask_get_inflight_fd(covretin_session *session, const covretin_inflight *inflight);
 /* Gives the region to a backend that takes the place of one that ended. */
 enum covretin_error covretin_ask_set_inflight_fd(covretin_session *session, const covretin_inflight *inflight, int32_t fd);

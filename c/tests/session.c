@@ -210,6 +210,18 @@ static void config_bytes(void)
     covretin_close(&session);
 }
 
+/* An inflight region is asked for some queues, of some size; with the profile Vhost for none, too. */
+static void asks_for_queues(void)
+{
+    const covretin_inflight no_queues = {.queue_size = 64}, no_size = {.num_queues = 1};
+    open_with(COVRETIN_PROTOCOL_INFLIGHT_SHMFD);
+    EXPECT(COVRETIN_INVALID_PARAM, covretin_ask_get_inflight_fd(&session, &no_queues));
+    EXPECT(COVRETIN_INVALID_PARAM, covretin_ask_get_inflight_fd(&session, &no_size));
+    EXPECT(COVRETIN_OK, covretin_set_profile(&session, COVRETIN_PROFILE_VHOST));
+    EXPECT(COVRETIN_OK, covretin_ask_get_inflight_fd(&session, &no_queues));
+    covretin_close(&session);
+}
+
 /* Virtio features are sent as they are given; those that were offered count as accepted. */
 static void accepts_features(void)
 {
@@ -337,6 +349,7 @@ int main(void)
     RUN(rings_without_descriptor);
     RUN(logs);
     RUN(config_bytes);
+    RUN(asks_for_queues);
     RUN(accepts_features);
     RUN(inactive);
     RUN(lacks_none_where_no_call_is_made);

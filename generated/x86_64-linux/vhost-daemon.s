@@ -49017,7 +49017,7 @@ main:
 	.type	.Lcovretin_static.5,@object
 	.section	.rodata..Lcovretin_static.5,"a",@progbits
 .Lcovretin_static.5:
-	.ascii	"vhost-daemon 0.2.0"
+	.ascii	"vhost-daemon 0.3.0"
 	.size	.Lcovretin_static.5, 18
 
 	.type	.Lcovretin_static.6,@object

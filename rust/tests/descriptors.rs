@@ -116,9 +116,9 @@ fn a_reply_that_ends_amid_leaves_none_open() {
             peer.socket.shutdown(Shutdown::Write).unwrap();
         };
         negotiated(ALL, backend, |frontend| {
-            failed("PartialMessage", frontend.get_inflight_fd(&VhostUserInflight::default()));
+            failed("PartialMessage", frontend.get_inflight_fd(&VhostUserInflight::new(0, 0, 1, 64)));
             assert!(is_left(&other));
-            failed("SocketBroken(32)", frontend.get_inflight_fd(&VhostUserInflight::default()));
+            failed("SocketBroken(32)", frontend.get_inflight_fd(&VhostUserInflight::new(0, 0, 1, 64)));
         });
     });
 }

@@ -157,6 +157,8 @@ fn objects_and_inflight_regions() {
             let fd = frontend.as_raw_fd();
             failed("InvalidParam", frontend.get_shared_object(&shared(0)));
             failed("InvalidParam", frontend.get_shared_object(&shared(0xff)));
+            failed("InvalidParam", frontend.get_inflight_fd(&VhostUserInflight::new(0, 0, 0, 1)));
+            failed("InvalidParam", frontend.get_inflight_fd(&VhostUserInflight::new(0, 0, 1, 0)));
             failed("InvalidParam", frontend.set_inflight_fd(&VhostUserInflight::new(0, 0, 1, 1), fd));
             failed("InvalidParam", frontend.set_inflight_fd(&VhostUserInflight::new(1, 0, 0, 1), fd));
             failed("InvalidParam", frontend.set_inflight_fd(&VhostUserInflight::new(1, 0, 1, 0), fd));

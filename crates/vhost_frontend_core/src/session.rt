@@ -15,8 +15,9 @@ ghost use Rattle.vhost_frontend_core.specs.Asking.{tested};
 
 use bitflags::Flags;
 use vhost_message::{
-    Error, PostcopyState, Result, VhostUserMsgValidator, VhostUserProtocolFeatures,
-    VhostUserVirtioFeatures, has_bit, header_bit, protocol_bit, virtio_bit,
+    Error, PostcopyState, Result, VhostUserInflight, VhostUserMsgValidator,
+    VhostUserProtocolFeatures, VhostUserVirtioFeatures, has_bit, header_bit, protocol_bit,
+    virtio_bit,
 };
 use vhost_protocol::{Awaited, Profile, Shape};
 
@@ -171,6 +172,18 @@ impl FrontendSession {
     {
         if self.profile.is_standard() {
             1 <= buffer.len()
+        } else {
+            true
+        }
+    }
+
+    /// Whether an inflight region is asked for some queues: under `Standard` one is, since a refusal names them again, and a reply
+    /// that names none is malformed.
+    pub fn has_queues(&self, area: &VhostUserInflight) -> bool
+        ensures { result ≡ ask.has_queues (frontend_of self.now) area.now }
+    {
+        if self.profile.is_standard() {
+            area.is_valid()
         } else {
             true
         }

@@ -43,7 +43,7 @@ config-asked-read : (c : VhostUserConfig) (rest : List ℕ) → ConfigFits c →
 config-asked-read c rest fits =
     ap (λ b. cond b (config_of (config_text c ++ rest)) (record { offset = 0; size = 0; flags = 0 })) (le-leb 12 (length (config_text c ++ rest)) (omega arith)) ∙ config-read c rest fits
 
-both-true : (a b : Bool) → (a && b) ≡ true → (a ≡ true) × (b ≡ true)
+pub both-true : (a b : Bool) → (a && b) ≡ true → (a ≡ true) × (b ≡ true)
 both-true true true h = (refl, refl)
 both-true true false h = absurd (cc h)
 both-true false b h = absurd (cc h)

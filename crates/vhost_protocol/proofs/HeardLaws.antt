@@ -1,6 +1,6 @@
 -- What the handler replies is a reply that the call may have.
 use Rattle.std.proofs.Common.{◌≡◌, ℕ, suc, drop, eqb-true, ◌+◌, ◌^◌, ◌<◌, ◌≤◌, Bool, true, false, cond, not, ◌&&◌, List, [], ◌∷◌, ◌++◌, length, Option, Some, None, Result, Ok, Err, refl, sym, ◌∙◌, ap, subst, arith, inl, inr, IfOk, IfSome, lit<}
-use Rattle.std.specs.Prelude.{◌==◌, nat_le, bit_or, flat_map, codes, All, ⊤}
+use Rattle.std.specs.Prelude.{◌==◌, nat_le, bit_or, flat_map, All, ⊤}
 use Rattle.std.proofs.lemmas.Nat.{or_lt}
 use Rattle.std.proofs.lemmas.Bool.{leb-true, eq-eqb}
 use Rattle.std.specs.List.{list_all}
@@ -27,8 +27,8 @@ use Rattle.vhost_message.specs.HeardReq.{request_of, any_request, request_number
 use Rattle.vhost_message.specs.Header.{Header}
 use Rattle.vhost_protocol.specs.AnswerTable.{Answered}
 use Rattle.vhost_protocol.specs.DeviceCall as device
-use Rattle.vhost_protocol.specs.Error.{Error, InvalidMessage, InvalidOperation, BackendInternalError}
-use Rattle.vhost_protocol.specs.FrontendCall.{FrontendCall, GetFeatures, GetProtocolFeatures, GetQueueNum, SetMemTable, SetLogBase, SetLogFd, SetVringCall, SetVringKick, SetVringErr, GetVringBase, GetConfig, GetSharedObject, GetInflightFd, GetMaxMemSlots, AddMemRegion, GetShmemConfig, SetDeviceStateFd, CheckDeviceState, PostcopyAdvise, PostcopyAckMemRegions, SetHdrFlags, Info, LogRegion, Frontend}
+use Rattle.vhost_protocol.specs.Error.{Error, InvalidMessage, BackendInternalError}
+use Rattle.vhost_protocol.specs.FrontendCall.{FrontendCall, GetFeatures, GetProtocolFeatures, GetQueueNum, SetMemTable, SetLogBase, SetVringCall, SetVringKick, SetVringErr, GetVringBase, GetConfig, GetSharedObject, GetInflightFd, GetMaxMemSlots, AddMemRegion, GetShmemConfig, SetDeviceStateFd, CheckDeviceState, PostcopyAdvise, PostcopyAckMemRegions, SetHdrFlags, Info, LogRegion, Frontend}
 use Rattle.vhost_protocol.specs.Heard.{IsAwaitedBy, AsksPlainly, AwaitsItsShape, HearsTheAnswer, shape_of, CallFits, IsGoodReply, AllGood, AskedWell, RepliesWell}
 use Rattle.vhost_protocol.specs.Laws.{PayloadFits, IsReplyOf}
 use Rattle.vhost_message.specs.Bits.{has_bit}

@@ -26,6 +26,7 @@ pub mod NegotiationLaws
 pub mod HeardLaws
 pub mod SendLaws
 pub mod FormLaws
+pub mod RefusalLaws
 pub mod FollowLaws
 mod SettledRows
 pub mod SettleLaws

@@ -1,22 +1,25 @@
 -- Whoever waits is answered: the laws of what a request becomes.
-use Rattle.std.specs.Prelude.{◌≡◌, true, false, ◌⊎◌, Some, Result, Err, is_ok, is_some, length, ⊤}
+use Rattle.std.specs.Prelude.{◌≡◌, ℕ, true, false, ◌⊎◌, List, Some, Result, Err, is_ok, is_some, length, ⊤}
 use Rattle.vhost_message.specs.declared.heard_req.HeardReq.{HeardReq}
 use Rattle.vhost_protocol.specs.declared.profile.Profile.{Profile}
 use Rattle.vhost_protocol.specs.declared.profile.Profile.TheVariants.{Vhost, Standard}
 use Rattle.vhost_protocol.specs.Agreement.{IsNegotiated, Fits}
-use Rattle.vhost_protocol.specs.AnswerTable.{Answered, answer}
+use Rattle.vhost_protocol.specs.AnswerTable.{Answered, answer, answered}
 use Rattle.vhost_protocol.specs.Ask.{Asked, Refuses, Answers, Sends, ask}
 use Rattle.vhost_protocol.specs.declared.asked.Awaited.{Awaited}
+use Rattle.vhost_protocol.specs.declared.asked.Awaited.TheVariants.{Reply}
 use Rattle.vhost_protocol.specs.FrontendCall.{FrontendCall, Frontend}
+use Rattle.vhost_protocol.specs.Heard.{CallFits}
 use Rattle.vhost_protocol.specs.Joined.{AgreeOn, read_as, stops}
 use Rattle.vhost_protocol.specs.DeviceCall.{Answer}
-use Rattle.vhost_protocol.specs.Error.{Error}
+use Rattle.vhost_protocol.specs.Error.{Error, BackendInternalError}
 use Rattle.vhost_protocol.specs.Row.{row, row_of}
 use Rattle.vhost_protocol.specs.Served.{Served, Silent, Acknowledged, Replied}
 use Rattle.vhost_protocol.specs.Session.{Session}
-use Rattle.vhost_protocol.specs.Settled.{has_reply, awaits_reply, is_awaited, is_unanswered, settled}
+use Rattle.vhost_protocol.specs.Settled.{has_reply, awaits_reply, is_awaited, is_unanswered, refused_reply, settled}
 use Rattle.vhost_protocol.specs.Split.{Message}
 use Rattle.vhost_protocol.specs.Step.{Outcome, Step, Refused, Calls, OpensBackend, OpensGpu}
+use Rattle.vhost_protocol.specs.Written.{payload_text}
 
 -- ---- a request that came whole
 
@@ -79,6 +82,27 @@ abbrev pub StaysHeard : {H : Type 0} → (B G : Type 0) → Session → Frontend
 StaysHeard B G s call (Refuses e) = ⊤
 StaysHeard B G s call (Answers v g) = AgreeOn g s
 StaysHeard B G s call (Sends w awaited g) = AllHeard {B = B} {G = G} call awaited g s (read_as w) (row s (read_as w))
+
+-- ---- a refusal
+
+-- It is an error of the backend, behind which the frontend goes on; or nothing is said, since the session has ended.
+abbrev pub SaysRefused : {H : Type 0} → FrontendCall H → Awaited → Frontend → Served H → Type 0
+SaysRefused call awaited f Silent = ⊤
+SaysRefused call awaited f served = (g : Frontend) × (answer call awaited f served ≡ Some (answered g (Err BackendInternalError)))
+
+-- the reply in which a request is refused says so, whatever the error was
+abbrev pub RefusalIsSaid : {H : Type 0} → FrontendCall H → Awaited → Frontend → HeardReq → (body : List ℕ) → Type 0
+RefusalIsSaid {H} call awaited f r body =
+    (e : Error) (t : Session) → SaysRefused call awaited f (refused_reply {H = H} r body (record { answer = Err e; served = Silent; session = t })).served
+
+-- whatever becomes of a call
+abbrev pub RefusesAloud : {H : Type 0} → FrontendCall H → Asked H → Type 0
+RefusesAloud call (Sends w (Reply shape) g) = RefusalIsSaid call (Reply shape) g w.request (payload_text w.payload)
+RefusesAloud call _ = ⊤
+
+-- Under Standard the refusal of no call ends its frontend's session: each form in which a reply refuses is taken as an error of the backend.
+abbrev pub RefusalsAreHeard : (H : Type 0) → Type 0
+RefusalsAreHeard H = (f : Frontend) (call : FrontendCall H) → f.profile ≡ Standard → CallFits call → RefusesAloud call (ask f call)
 
 -- ---- what was served
 

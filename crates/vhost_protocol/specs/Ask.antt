@@ -6,12 +6,13 @@ use Rattle.vhost_message.specs.Bits.{has_bit}
 use Rattle.vhost_message.specs.declared.heard_req.HeardReq.{HeardReq}
 use Rattle.vhost_message.specs.declared.heard_req.HeardReq.TheVariants.{GET_FEATURES, SET_FEATURES, SET_OWNER, RESET_OWNER, SET_MEM_TABLE, SET_LOG_BASE, SET_LOG_FD, SET_VRING_NUM, SET_VRING_ADDR, SET_VRING_BASE, GET_VRING_BASE, SET_VRING_KICK, SET_VRING_CALL, SET_VRING_ERR, GET_PROTOCOL_FEATURES, SET_PROTOCOL_FEATURES, GET_QUEUE_NUM, SET_VRING_ENABLE, NET_SET_MTU, SET_BACKEND_REQ_FD, GET_CONFIG, SET_CONFIG, POSTCOPY_ADVISE, POSTCOPY_LISTEN, POSTCOPY_END, GET_INFLIGHT_FD, SET_INFLIGHT_FD, RESET_DEVICE, GET_MAX_MEM_SLOTS, ADD_MEM_REG, REM_MEM_REG, GET_SHARED_OBJECT, SET_DEVICE_STATE_FD, CHECK_DEVICE_STATE, GET_SHMEM_CONFIG}
 use Rattle.vhost_message.specs.declared.records.config.VhostUserConfig.{VhostUserConfig}
+use Rattle.vhost_message.specs.declared.records.inflight.VhostUserInflight.{VhostUserInflight}
 use Rattle.vhost_message.specs.declared.records.log.VhostUserLog.{VhostUserLog}
 use Rattle.vhost_message.specs.declared.records.memory.VhostUserMemoryRegion.{VhostUserMemoryRegion}
 use Rattle.vhost_message.specs.declared.records.vring.VhostUserVringState.{VhostUserVringState}
 use Rattle.vhost_message.specs.VringConfig.{ring_addr}
 use Rattle.vhost_message.specs.Records.{single_region}
-use Rattle.vhost_message.specs.Valid.{is_valid_config, is_valid_uuid}
+use Rattle.vhost_message.specs.Valid.{is_valid_config, is_valid_inflight, is_valid_uuid}
 use Rattle.vhost_protocol.specs.declared.asked.Awaited.{Awaited}
 use Rattle.vhost_protocol.specs.declared.asked.Awaited.TheVariants.{Nobody, Ack, Reply}
 use Rattle.vhost_protocol.specs.declared.asked.Shape.{Shape}
@@ -70,6 +71,10 @@ given (Some a) = Ok a
 -- under Standard there is room for the bytes that are asked for: an answer comes whatever there is
 abbrev pub has_room : Frontend → List ℕ → Bool
 has_room f buffer = if is_standard f.profile then nat_le 1 (length buffer) else true
+
+-- under Standard an inflight region is asked for some queues: a refusal names them again, and one of none is no valid record
+abbrev pub has_queues : Frontend → VhostUserInflight → Bool
+has_queues f i = if is_standard f.profile then is_valid_inflight i else true
 
 -- ---- messages
 
@@ -233,6 +238,7 @@ ask f (GetSharedObject name) = do
   asks f GET_SHARED_OBJECT (ObjectName name) [] shape.Empty
 ask f (GetInflightFd i) = do
   frontend_feature f INFLIGHT_SHMFD
+  param (has_queues f i)
   asks f GET_INFLIGHT_FD (InflightArea i) [] shape.Inflight
 ask f (SetInflightFd i h) = do
   frontend_feature f INFLIGHT_SHMFD

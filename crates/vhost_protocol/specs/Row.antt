@@ -18,7 +18,7 @@ use Rattle.vhost_protocol.specs.Features.{PROTOCOL_FEATURES, MQ, LOG_SHMFD, MTU,
 use Rattle.vhost_protocol.specs.Profile.{is_standard}
 use Rattle.vhost_protocol.specs.Session.{Session, is_inactive, is_advise, is_listen, enabling}
 use Rattle.vhost_protocol.specs.Split.{Message}
-use Rattle.vhost_protocol.specs.Step.{Refusal, Step, Refused, OpensBackend, OpensGpu, ◌>>=◌, ◌>>◌, silently, acknowledged}
+use Rattle.vhost_protocol.specs.Step.{Refusal, Step, OpensBackend, OpensGpu, ◌>>=◌, ◌>>◌, silently, acknowledged}
 use Rattle.vhost_protocol.specs.Error.{test}
 
 -- ---- tests

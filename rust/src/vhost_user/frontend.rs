@@ -57,7 +57,8 @@ pub trait VhostUserFrontend: VhostBackend {
     /// such object; under [`Profile::Vhost`](super::Profile) that is InvalidMessage, and the connection ends. SHARED_OBJECT.
     fn get_shared_object(&mut self, uuid: &VhostUserSharedMsg) -> Result<File>;
 
-    /// The inflight region for so many rings of this size, and the file that maps it. INFLIGHT_SHMFD.
+    /// The inflight region for so many rings of this size, and the file that maps it. InvalidParam: there are none, or of no size; under
+    /// [`Profile::Vhost`](super::Profile) that is sent. INFLIGHT_SHMFD.
     fn get_inflight_fd(&mut self, inflight: &VhostUserInflight) -> Result<(VhostUserInflight, File)>;
 
     /// Gives the inflight region to a backend that takes the place of one that ended. The descriptor stays the caller's.

@@ -207,7 +207,11 @@ pub fn planned<'a, H>(session: FrontendSession, call: &Call<'a, H>) -> Result<Pl
             Shape::Empty,
         ),
         GetInflightFd(area) => asks_once(
-            session.needs(protocol_bit::INFLIGHT_SHMFD),
+            allows::<H>(
+                session,
+                protocol_bit::INFLIGHT_SHMFD,
+                session.has_queues(area),
+            ),
             session,
             GET_INFLIGHT_FD,
             Record::InflightArea(*area),

@@ -5,7 +5,8 @@ use super::messages::cut_in_order;
 use super::replies::{read_as_written, taken_as_served};
 use super::reverse::answered_as_served;
 use super::rows::{
-    no_silent_stop, rows_keep_mark, silent_is_last, stays_in_step, stays_negotiated, whoever_waits,
+    no_silent_stop, refusals_are_heard, rows_keep_mark, silent_is_last, stays_in_step,
+    stays_negotiated, whoever_waits,
 };
 use vhost_message::{BackendReq, HeardReq};
 
@@ -25,4 +26,5 @@ pub fn laws_of_both_channels() {
     stays_negotiated::<u32>();
     whoever_waits::<u32, u32, u32>();
     no_silent_stop::<u32, u32, u32>();
+    refusals_are_heard::<u32>();
 }

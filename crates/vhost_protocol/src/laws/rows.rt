@@ -1,7 +1,7 @@
 //! The handling rules, and both sides of a connection.
 
 ghost use Rattle.vhost_protocol.specs.Agreement.{AnswersNegotiate, AsksNegotiate, RowsKeepMark, SilentIsLast, KeepsStep};
-ghost use Rattle.vhost_protocol.specs.Answering.{WhoeverWaitsIsAnswered, VhostIsTheTable, NoSilentStop};
+ghost use Rattle.vhost_protocol.specs.Answering.{WhoeverWaitsIsAnswered, VhostIsTheTable, NoSilentStop, RefusalsAreHeard};
 
 /// No handling rule changes the failure mark of a session.
 pub fn rows_keep_mark<H, B, G>()
@@ -36,4 +36,9 @@ pub fn whoever_waits<H, B, G>()
 /// agree after it, unless the session has ended.
 pub fn no_silent_stop<H, B, G>()
     ensures { NoSilentStop H B G }
+{}
+
+/// Under `Standard` no refusal ends its frontend's session: each form in which a reply refuses is taken as an error of the backend.
+pub fn refusals_are_heard<H>()
+    ensures { RefusalsAreHeard H }
 {}
