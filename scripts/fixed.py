@@ -33,9 +33,9 @@ def signature(lines, start):
         if CONTRACT.match(line):
             break
         text += " " + line.strip()
-        if line.rstrip().endswith(("{", ";")):
+        if line.rstrip().endswith(("{", ";", "{}")):
             break
-    text = re.sub(r"\s+", " ", text).strip(" {;")
+    text = re.sub(r"\s+", " ", text).strip(" {;").removesuffix("{}").rstrip(" {;")
     return text.replace("( ", "(").replace(", )", ")").replace(" )", ")").removeprefix("pub ")
 
 

@@ -27,6 +27,9 @@ SCRIPTS, PRINTED = "tests/scripts", "tests/printed"
 # What tries the program of lines where no script can, and beside a table and a model.
 ROWS = ("scripts/try_run.py", "scripts/try_lines.py")
 
+# What compiles a program by the names of the crates alone.
+CLIENT = "scripts/client.py"
+
 # What plays lines, and all other sessions, as the crate of a program and whether it is its tests: the library is of no program.
 RUN, LIBRARY = ("vhost_run", False), ("the library for C", False)
 
@@ -42,12 +45,13 @@ class Play:
     tests: bool = False
     script: bool = False
     rows: bool = False
+    alone: bool = False
     needs: list = field(default_factory=list)
     broken: str = ""
 
     def __post_init__(self):
-        """A program or unit tests need what is compiled of their crate."""
-        self.needs = self.needs or [(self.crate, self.tests)]
+        """A program or unit tests need what is compiled of their crate; what is alone makes what it needs."""
+        self.needs = self.needs or ([] if self.alone else [(self.crate, self.tests)])
 
     def is_named(self, word):
         """Whether a word names it: its crate, or the end of its path, with or without what stands behind the dot."""
@@ -146,7 +150,7 @@ def play_script(play):
 
 def play_rows(play):
     """Runs the rows of a program: what those said that failed, and how many held."""
-    status, wrote, told = run(sys.executable, [f"{TOP}/{play.path}", program_of_lines()])
+    status, wrote, told = run(sys.executable, [f"{TOP}/{play.path}", *([] if play.alone else [program_of_lines()])])
     lines = (wrote + told).decode(errors="replace").splitlines()
     return [it for it in lines if ": ok" not in it] if status != 0 else [], f" ({lines[-1] if lines else 'nothing'})"
 
@@ -227,7 +231,7 @@ def compile_all(plays, jobs):
 
 
 def main(jobs, words):
-    every = [*scripts(), *(play for crate in dependencies() for play in plays_of(crate))]
+    every = [*scripts(), *(play for crate in dependencies() for play in plays_of(crate)), Play("client", CLIENT, rows=True, alone=True)]
     for word in words:
         if not any(it.is_named(word) for it in every):
             print(f"quick-test: there is nothing named {word}: a script, a file of unit tests, a crate, or scripts", file=sys.stderr)
