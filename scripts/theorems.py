@@ -6,8 +6,8 @@
   scripts/theorems.py --write     writes the figures of its table
   scripts/theorems.py --closures  prints each definition that a statement reaches, with its lines
 
-Each function of the page's table is one of crates/vhost_headline/src/headline.rt, is called in src/runs.rt there, and has its line in what the
-program prints; so has each function of headline.rt its row. The figures are those of scripts/closures.py, of the definitions that its contract
+Each function of the page's table is one of crates/vhost_headline/src, in headline.rt or sessions.rt, is called in runs.rt or session_runs.rt
+there, and has its line in what the program prints; so has each function of these two its row. The figures are those of scripts/closures.py, of the definitions that its contract
 names. In each section there stands what carries it: functions, each in the file behind it; worked consequences, which are functions in crates/;
 and mutants, of lockstep three at least and else one, each with its file.
 
@@ -21,7 +21,9 @@ import sys
 from closures import TOP, closure, lines_of, module_at, size, target
 
 CRATE = "vhost_headline"
-CODE = f"{TOP}/crates/{CRATE}/src/headline.rt"
+SOURCES = f"{TOP}/crates/{CRATE}/src"
+# The modules of the statements, and where each is run.
+RUN_BY = {"headline": "runs", "sessions": "session_runs"}
 PAGE = f"{TOP}/docs/THEOREMS.md"
 
 # Of which statement how many mutants are the least.
@@ -36,14 +38,23 @@ def text_of(path):
     return "\n".join(lines_of(path))
 
 
+def imported(text):
+    """Where each name of a definition is from, and how that is named there."""
+    for crate, module, group in IMPORT.findall(text):
+        for word in group.split(","):
+            name, _, here = word.strip().partition(" as ")
+            yield here or name, (crate, module, name)
+
+
 def contracts():
-    """Of each function the definitions that its contract names."""
-    text = text_of(CODE)
-    words = {word.strip(): place for *place, group in IMPORT.findall(text) for word in group.split(",")}
-    for name, body in FUNCTION.findall(text):
-        clauses = " ".join(re.findall(r"(?:requires|ensures)[^{\n]*\{(.*)\}", body))
-        named = (target(*words[word], word) for word in re.findall(r"\w+", clauses) if word in words)
-        yield name, closure(it for it in named if it)
+    """Of each function its module, and the definitions that its contract names."""
+    for module in RUN_BY:
+        text = text_of(f"{SOURCES}/{module}.rt")
+        words = dict(imported(text))
+        for name, body in FUNCTION.findall(text):
+            contract = body.partition("\n{\n")[0]
+            named = (target(*words[word]) for word in re.findall(r"\w+", contract) if word in words)
+            yield module, name, closure(it for it in named if it)
 
 
 def lines_in(reached):
@@ -57,15 +68,16 @@ def lines_of_modules(reached):
 def wrong_rows(page):
     """What is wrong with the table."""
     rows = {name: int(figure.replace(",", "")) for name, figure in ROW.findall(page)}
-    runs, printed = text_of(f"{TOP}/crates/{CRATE}/src/runs.rt"), text_of(f"{TOP}/crates/{CRATE}/stdout")
-    there = dict(contracts())
+    printed = text_of(f"{TOP}/crates/{CRATE}/stdout").split("\n")
+    there = {name: (module, reached) for module, name, reached in contracts()}
     for name in rows.keys() ^ there.keys():
-        yield f"{name}: not both on the page and in headline.rt"
+        yield f"{name}: not both on the page and in the sources"
     for name in rows.keys() & there.keys():
-        if f"headline::{name}(" not in runs or f"{name}: ran" not in printed.split("\n"):
+        module, reached = there[name]
+        if f"{module}::{name}(" not in text_of(f"{SOURCES}/{RUN_BY[module]}.rt") or f"{name}: ran" not in printed:
             yield f"{name}: the program does not run it"
-        if rows[name] != lines_in(there[name]):
-            yield f"{name}: {rows[name]} lines on the page, and {lines_in(there[name])} in the sources"
+        if rows[name] != lines_in(reached):
+            yield f"{name}: {rows[name]} lines on the page, and {lines_in(reached)} in the sources"
 
 
 def is_function(name, path):
@@ -111,7 +123,7 @@ def wrong_sections(page):
 
 def main(words):
     if words == ["--closures"]:
-        for name, reached in contracts():
+        for _, name, reached in contracts():
             print(f"{name}: {lines_in(reached)} lines, of modules that have {lines_of_modules(reached)} whole")
             for path, item in sorted(reached):
                 print(f"{size(path, item):8} {os.path.relpath(path, f'{TOP}/crates')} {item.split(' ')[0]}")
@@ -121,7 +133,7 @@ def main(words):
         return 2
     page = text_of(PAGE)
     if words:
-        there = dict(contracts())
+        there = {name: reached for _, name, reached in contracts()}
         page = ROW.sub(lambda row: row[0].replace(f"| {row[2]} lines |", f"| {lines_in(there[row[1]]):,} lines |") if row[1] in there else row[0], page)
         with open(PAGE, "w", encoding="utf-8") as file:
             file.write(page)

@@ -345,10 +345,10 @@ fn write_anything(ring: &Ring, any: &mut Numbers, is_packed: bool) {
     }
 }
 
-/// Whatever is in its rings, the device answers its frontend; a queue that broke is begun anew.
-fn bears_anything(offers: u64, features: u64) {
+/// Whatever is in its rings, the device answers its frontend; a queue that broke is begun anew. Other seeds are other contents.
+fn bears_anything(offers: u64, features: u64, seed: u64) {
     let (mut machine, mut ring) = begun_polling(offers, features, Duration::from_micros(20));
-    let (mut any, mut broken) = (Numbers(0x1234_5678_9abc_def1), 0);
+    let (mut any, mut broken) = (Numbers(0x1234_5678_9abc_def1_u64.wrapping_mul(2 * seed + 1)), 0);
     for round in 0..4000 {
         write_anything(&ring, &mut any, offers != 0);
         if offers == 0 {
@@ -375,10 +375,21 @@ fn bears_anything(offers: u64, features: u64) {
 
 #[test]
 fn bears_anything_in_a_split_queue() {
-    counted(|| bears_anything(0, INDIRECT_DESC | EVENT_IDX));
+    counted(|| bears_anything(0, INDIRECT_DESC | EVENT_IDX, 0));
 }
 
 #[test]
 fn bears_anything_in_a_packed_queue() {
-    counted(|| bears_anything(RING_PACKED, INDIRECT_DESC | RING_PACKED));
+    counted(|| bears_anything(RING_PACKED, INDIRECT_DESC | RING_PACKED, 0));
+}
+
+/// Both for as many seeds as COVRETIN_SEEDS says, behind the first: by hand, for as long as one likes.
+#[test]
+#[ignore]
+fn bears_anything_for_long() {
+    let seeds = std::env::var("COVRETIN_SEEDS").map_or(1, |count| count.parse().unwrap());
+    for seed in 1..=seeds {
+        counted(|| bears_anything(0, INDIRECT_DESC | EVENT_IDX, seed));
+        counted(|| bears_anything(RING_PACKED, INDIRECT_DESC | RING_PACKED, seed));
+    }
 }

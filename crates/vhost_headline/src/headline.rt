@@ -7,10 +7,12 @@ ghost use Rattle.vhost_joined.specs.Joined.{Offers};
 ghost use Rattle.vhost_joined.specs.Lockstep.{ArePlain};
 ghost use Rattle.vhost_promises.specs.Rings.{Arrives, part_cells, sent_cells};
 ghost use Rattle.vhost_promises.specs.Shared.{OwnAnswer};
+ghost use Rattle.vhost_recorder.specs.Share.{count_of, parts_of};
 ghost use Rattle.vhost_protocol.specs.FrontendCall as call;
 
 use std::alloc::{AllocError, Global};
 use std::sync::Wait;
+use std::sync::ledger::Ledger;
 use std::thread::Threads;
 use vhost_backend_req_handler::SessionCore;
 use vhost_device::VhostUserBackendReqHandlerMut;
@@ -20,7 +22,7 @@ use vhost_joined::{Halt, Joined};
 use vhost_link::{Cut, Link, MemLink, PlainHandle};
 use vhost_promises::{Carried, carries, own_features, serves_whole};
 use vhost_protocol::Profile;
-use vhost_recorder::{Entry, Log};
+use vhost_recorder::{Log, Recorder, Share};
 
 /// 1. Safe and total: whatever a peer sends, and however it is cut.
 pub fn safe_and_total<L: Link, D: VhostUserBackendReqHandlerMut<Link = L>>(
@@ -74,12 +76,18 @@ pub fn lockstep<D: VhostUserBackendReqHandlerMut<Link = MemLink>>(
     Ok((joined, answers))
 }
 
-/// 5. Threads: the log of callers that share both sides, for every interleaving.
-pub fn threads<D: VhostUserBackendReqHandlerMut<Link = MemLink>>(log: &Log<D>) -> &[Entry]
-    ensures entries { result.now ≡ log.now.entries }
-    ensures legal { IsLegalLog D.gives log.now }
+/// 5. Threads: the log of callers that share both sides, for every interleaving. It has an entry for each call that was answered.
+pub fn threads<D: VhostUserBackendReqHandlerMut<Link = MemLink>, L: Ledger>(
+    recorder: Recorder<D, L>,
+    whole: Share<L>,
+) -> Log<D>
+    requires { parts_of whole ≡ L.parts }
+    ensures as_many { length result.entries ≡ count_of whole }
+    ensures legal { IsLegalLog D.gives result }
 {
-    log.entries()
+    let log = recorder.close(whole);
+    let _ = log.entries();
+    log
 }
 
 /// 5. Threads: a caller of a shared frontend is told the answer to its own request, whatever others ask.

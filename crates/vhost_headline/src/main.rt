@@ -3,6 +3,8 @@
 
 mod headline;
 mod runs;
+mod session_runs;
+mod sessions;
 
 use std::process::ExitCode;
 
@@ -16,6 +18,15 @@ fn main(rt: HostRuntime) -> ExitCode {
         ("threads", runs::two_callers(&rt, alloc)),
         ("own_answer", runs::shared(&rt, alloc)),
         ("ring", runs::twenty(&rt, alloc)),
+        ("frontend_asks", session_runs::asked(alloc)),
+        ("frontend_takes", session_runs::features(alloc)),
+        ("channel_serves", session_runs::served(alloc)),
+        ("channel_runs", session_runs::served_twice(alloc)),
+        ("channel_asks", session_runs::added(alloc)),
+        ("channel_takes", session_runs::acknowledged(alloc)),
+        ("display_asks", session_runs::displayed(alloc)),
+        ("queue_follows", session_runs::followed(alloc)),
+        ("packed_queue_follows", session_runs::followed_packed(alloc)),
     ];
     for (name, holds) in ran {
         let says = if holds == Some(true) {

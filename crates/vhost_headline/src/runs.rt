@@ -1,8 +1,12 @@
 //! A run of each statement.
 
+ghost use Rattle.std.specs.Prelude.{◌≡◌, IfOk, length};
+
 use crate::headline;
 use std::alloc::Global;
+use std::marker::Brand;
 use std::sync::Wait;
+use std::sync::ledger::{Blank, Ledger};
 use std::thread::Threads;
 use vhost_backend_req_handler::SessionCore;
 use vhost_dummy_backend::DummyBackendReqHandler;
@@ -11,6 +15,7 @@ use vhost_frontend_core::{FrontendAnswer, FrontendCall};
 use vhost_link::{Cut, Kind, MemLink, PlainHandle};
 use vhost_message::Error;
 use vhost_protocol::Profile;
+use vhost_recorder::{Halt, Log, Recorder};
 
 /// GET_FEATURES, and SET_OWNER twice.
 static THREE: [u8; 36] = [
@@ -79,11 +84,34 @@ pub(crate) fn joined(alloc: Global) -> Option<bool> {
     Some(is_right && joined.stopped().is_none())
 }
 
+/// The log of two callers of a new device: caller 1 asks for its features, and caller 2 claims it.
+fn calls_of_two<L: Ledger, R: Wait>(
+    rt: &R,
+    alloc: Global,
+    blank: Blank,
+) -> Result<Log<DummyBackendReqHandler<MemLink>>, Halt>
+    requires { (blank.name ≡ L.name) × (blank.parts ≡ L.parts) × (L.parts ≡ 3) }
+    ensures { IfOk result (λ log. length log.entries ≡ 2) }
+{
+    let device = DummyBackendReqHandler::<MemLink>::new(alloc, Vec::new(alloc));
+    let scripts = (Vec::new(alloc), Vec::new(alloc));
+    let opened = Recorder::<DummyBackendReqHandler<MemLink>, L>::open(
+        blank, alloc, device, 2, 3, scripts,
+    );
+    let (recorder, mut all) = opened?;
+    let mut one = all.split(1);
+    let mut two = all.split(2);
+    recorder.call(rt, &mut one, &FrontendCall::GetFeatures)?;
+    recorder.call(rt, &mut two, &FrontendCall::SetOwner)?;
+    all.join(one);
+    all.join(two);
+    Ok(headline::threads(recorder, all))
+}
+
 /// Whether the log of two callers has a call of each.
 pub(crate) fn two_callers<R: Wait>(rt: &R, alloc: Global) -> Option<bool> {
-    let (log, _, _) = vhost_promises::two_callers(rt, alloc).ok()?;
-    let entries = headline::threads(&log);
-    Some(matches!(entries, [one, two] if one.caller() == 1 && two.caller() == 2))
+    let log = calls_of_two::<Brand, R>(rt, alloc, Blank::new(3)).ok()?;
+    Some(matches!(log.entries(), [one, two] if one.caller() == 1 && two.caller() == 2))
 }
 
 /// Whether a shared frontend reads the features that its link hands out.
