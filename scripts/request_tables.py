@@ -147,18 +147,29 @@ def replied(kinds, _):
 
 
 def field(text):
+    """A field's name, its bytes and its form."""
     name, width, *shape = text.split(":")
-    return f'("{name}", {width}, Form::{shape[0] if shape else "Padding" if not name else "Address" if width == "8" else "Number"})'
+    return name, width, shape[0] if shape else "Padding" if not name else "Address" if width == "8" else "Number"
+
+
+def parts(shown):
+    """The fields of a body of which these are shown; the name and the fields of the records behind them, if there are some; and whether bytes
+    stand there."""
+    found = re.fullmatch(r"(.*?) ?(?:(\w+)\((.*)\)|(bytes))", shown)
+    if not found:
+        return [field(it) for it in shown.split()], None, [], False
+    return [field(it) for it in found[1].split()], found[2], [field(it) for it in (found[3] or "").split()], bool(found[4])
 
 
 def layout(shown):
     """The layout of a body of which these fields are shown."""
-    tail = "End"
-    found = re.fullmatch(r"(.*?) ?(?:(\w+)\((.*)\)|(bytes))", shown)
-    if found:
-        shown = found[1]
-        tail = "Bytes" if found[4] else f'Records("{found[2]}", &[{", ".join(map(field, found[3].split()))}])'
-    return [field(it) for it in shown.split()], tail
+
+    def in_rust(fields):
+        return [f'("{name}", {width}, Form::{form})' for name, width, form in fields]
+
+    fields, records, inner, has_bytes = parts(shown)
+    tail = f'Records("{records}", &[{", ".join(in_rust(inner))}])' if records else "Bytes" if has_bytes else "End"
+    return in_rust(fields), tail
 
 
 def layouts(kind, key):
@@ -212,6 +223,37 @@ def usages(kinds, _):
         else:
             rows.append("  " + text)
     return [f"calls='{rows[0]}", *rows[1:-1], f"{rows[-1]}'"]
+
+
+# -- Lua --
+
+
+def layout_in_lua(shown, is_empty=False):
+    """A layout as the dissector has it. A body that is not shown and that no request has is an empty one."""
+
+    def in_lua(fields):
+        return [f'{{ "{name}", {width}, "{form}" }}' for name, width, form in fields]
+
+    fields, records, inner, has_bytes = parts(shown)
+    row = in_lua(fields)
+    row += [f'tail = "{records}"', f"of = {{ {', '.join(in_lua(inner))} }}"] if records else ['tail = "bytes"'] if has_bytes else []
+    row += ["empty = true"] if is_empty else []
+    return f"{{ {', '.join(row)} }}"
+
+
+def dissected(kind):
+    """Each request's row in the dissector."""
+
+    def rows(kinds, _):
+        for it in kinds[kind]:
+            yield f'[{it["code"]}] = {{'
+            yield f'    name = "{it["name"]}", replies = {"true" if it.get("reply", "ack") != "ack" else "false"},'
+            yield f"    body = {layout_in_lua(it.get('shown', 'bytes'), 'body' not in it)},"
+            if kind == "frontend":
+                yield f"    reply = {layout_in_lua(it['reply_shown'])},"
+            yield "},"
+
+    return rows
 
 
 # -- Rattle --
@@ -317,6 +359,7 @@ TABLES = {
     "rust/src/tap/refused.rs": {"what is wanted": wants, "requests with a reply": replied},
     "rust/src/tap/layout.rs": {"requests": layouts("frontend", "shown"), "replies": layouts("frontend", "reply_shown"),
                                "requests of a backend": layouts("backend", "shown")},
+    "wireshark/vhost_user.lua": {"requests": dissected("frontend"), "requests of a backend": dissected("backend")},
     "tests/player/calls.py": {"calls of one word an argument": plain_calls},
     "tests/player/device.py": {"calls": device_calls},
     "vhost-run": {"calls": usages},

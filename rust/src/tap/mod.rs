@@ -3,6 +3,7 @@
 mod call;
 mod differences;
 mod event;
+mod exported;
 mod finding;
 mod gathering;
 mod json;
@@ -10,7 +11,9 @@ mod judge;
 mod layout;
 mod open_sockets;
 mod options;
+mod packets;
 mod passing;
+mod pcapng;
 mod recording;
 mod refused;
 mod reporter;
@@ -26,8 +29,10 @@ use std::io::{self, BufRead, BufReader, Write};
 use std::path::{Path, PathBuf};
 use std::process::ExitCode;
 use std::thread;
+use std::time::{Duration, SystemTime};
 
 use options::{Asked, Options, Source};
+use packets::Packets;
 use reporter::{Next, Notes, Reporter};
 use watcher::{Verdict, Watcher};
 
@@ -69,12 +74,24 @@ fn say(output: &mut impl Write, text: &str) -> io::Result<Verdict> {
 
 fn tap(options: &Options, output: impl Write + Send + 'static) -> io::Result<Verdict> {
     match &options.source {
-        Source::Recording(file) => replay(Watcher::new(options, output, None), file),
+        Source::Recording(file) => {
+            let lines = BufReader::new(File::open(file).map_err(about(file))?);
+            let packets = packets(options, Some(file), Duration::ZERO)?;
+            replay(Watcher::new(options, output, None, packets), file, lines)
+        }
         Source::Sockets { listen, connect, record, count } => {
-            let watcher = |record| Watcher::new(options, output, record);
+            let watcher = |file| {
+                let started = SystemTime::now().duration_since(SystemTime::UNIX_EPOCH).unwrap_or_default();
+                Ok(Watcher::new(options, output, file, packets(options, record.as_deref(), started)?))
+            };
             tap_sockets(watcher, listen, connect, record.as_deref(), *count)
         }
     }
+}
+
+/// The file of packets, where one is wanted.
+fn packets(options: &Options, recording: Option<&Path>, started: Duration) -> io::Result<Option<Packets>> {
+    options.pcapng.as_deref().map(|path| Packets::create(path, recording, started)).transpose()
 }
 
 /// An error, with the path that it is about.
@@ -82,12 +99,11 @@ fn about(path: &Path) -> impl Fn(io::Error) -> io::Error + '_ {
     move |cause| io::Error::new(cause.kind(), format!("{}: {cause}", path.display()))
 }
 
-fn replay(mut watcher: Watcher<impl Write>, file: &Path) -> io::Result<Verdict> {
+fn replay(mut watcher: Watcher<impl Write>, file: &Path, mut lines: impl BufRead) -> io::Result<Verdict> {
     let wrong = |number: u64, reason: &str| {
         let text = format!("{}: line {number} is none of a recording: {reason}", file.display());
         io::Error::new(io::ErrorKind::InvalidData, text)
     };
-    let mut lines = BufReader::new(File::open(file).map_err(about(file))?);
     let mut line = Vec::new();
     for number in 1.. {
         line.clear();
@@ -109,7 +125,7 @@ fn replay(mut watcher: Watcher<impl Write>, file: &Path) -> io::Result<Verdict> 
 }
 
 fn tap_sockets<W: Write + Send + 'static>(
-    watcher: impl FnOnce(Option<File>) -> Watcher<W>,
+    watcher: impl FnOnce(Option<File>) -> io::Result<Watcher<W>>,
     listen: &Path,
     connect: &Path,
     record: Option<&Path>,
@@ -118,15 +134,15 @@ fn tap_sockets<W: Write + Send + 'static>(
     // Before there is another thread, which it would end.
     let signals = EndSignals::block();
     let listener = sockets::listen_at(listen).map_err(about(listen))?;
-    // Behind that: who can't listen, since another tap does, does not empty that one's recording.
-    let record = match record.map(|path| File::create(path).map_err(about(path))).transpose() {
-        Ok(record) => record,
+    // Behind that: who can't listen, since another tap does, does not empty that one's files.
+    let record = record.map(|path| File::create(path).map_err(about(path))).transpose();
+    let watcher = match record.and_then(watcher) {
+        Ok(watcher) => watcher,
         Err(cause) => {
             let _ = remove_file(listen);
             return Err(cause);
         }
     };
-    let watcher = watcher(record);
     let (reporter, notes) = Reporter::new();
     let watching = thread::Builder::new().spawn(move || watch(watcher, &notes))?;
     sockets::pass_sessions(listener, PathBuf::from(connect), count, signals, &reporter);

@@ -8,8 +8,8 @@ use crate::vhost_user::Profile;
 
 /// What the program prints where it is called in another way.
 pub(super) const USAGE: &str = "\
-usage: covretin-tap [--profile=standard|vhost] [--json] [--hex] [--record=FILE] [--count=N] LISTEN CONNECT
-       covretin-tap [--profile=standard|vhost] [--json] [--hex] --replay=FILE";
+usage: covretin-tap [--profile=standard|vhost] [--json] [--hex] [--pcapng=FILE] [--record=FILE] [--count=N] LISTEN CONNECT
+       covretin-tap [--profile=standard|vhost] [--json] [--hex] [--pcapng=FILE] --replay=FILE";
 
 /// What is said of it by --help.
 pub(super) const HELP: &str = "
@@ -20,6 +20,7 @@ than the backend ended the session, and what is not by the letter, but taken by 
   --profile=P    which table: standard, that of the specification and of real peers, or vhost, that of the crate vhost
   --json         a line of JSON for each event
   --hex          the bytes of each message
+  --pcapng=FILE  writes what is seen to FILE as packets, which Wireshark reads
   --record=FILE  writes what is seen to FILE, a line of JSON each
   --count=N      ends with the Nth session; without it the tap ends by SIGINT or SIGTERM, and with it all sessions
   --replay=FILE  shows and judges what was recorded, in place of a session
@@ -46,6 +47,8 @@ pub(super) struct Options {
     pub(super) profile: Profile,
     pub(super) format: Format,
     pub(super) shows_bytes: bool,
+    /// The file of packets.
+    pub(super) pcapng: Option<PathBuf>,
     pub(super) source: Source,
 }
 
@@ -62,6 +65,7 @@ pub(super) fn parse(words: impl IntoIterator<Item = OsString>) -> Result<Asked, 
     let mut words = words.into_iter();
     let (mut profile, mut format, mut shows_bytes) = (Profile::Standard, Format::Text, false);
     let (mut record, mut replay, mut count, mut paths) = (None, None, None, Vec::new());
+    let mut pcapng = None;
     while let Some(word) = words.next() {
         let mut file = |name: &str| words.next().map(PathBuf::from).ok_or(format!("{name} wants a file"));
         match word.as_bytes() {
@@ -71,10 +75,12 @@ pub(super) fn parse(words: impl IntoIterator<Item = OsString>) -> Result<Asked, 
             b"--hex" => shows_bytes = true,
             b"--record" => record = Some(file("--record")?),
             b"--replay" => replay = Some(file("--replay")?),
+            b"--pcapng" => pcapng = Some(file("--pcapng")?),
             b"--profile=standard" => profile = Profile::Standard,
             b"--profile=vhost" => profile = Profile::Vhost,
             bytes if bytes.starts_with(b"--record=") => record = Some(path_of(&bytes["--record=".len()..])),
             bytes if bytes.starts_with(b"--replay=") => replay = Some(path_of(&bytes["--replay=".len()..])),
+            bytes if bytes.starts_with(b"--pcapng=") => pcapng = Some(path_of(&bytes["--pcapng=".len()..])),
             [b'-', ..] => match word.to_string_lossy().strip_prefix("--count=") {
                 Some(number) => {
                     count = Some(number.parse().ok().filter(|it| *it != 0).ok_or("--count wants a number from 1 on")?)
@@ -85,7 +91,7 @@ pub(super) fn parse(words: impl IntoIterator<Item = OsString>) -> Result<Asked, 
         }
     }
     let source = source(paths, replay, record, count)?;
-    Ok(Asked::Tap(Options { profile, format, shows_bytes, source }))
+    Ok(Asked::Tap(Options { profile, format, shows_bytes, pcapng, source }))
 }
 
 fn path_of(bytes: &[u8]) -> PathBuf {
@@ -127,16 +133,20 @@ mod tests {
     #[test]
     fn sockets_and_a_recording() {
         let sockets = |record, count| Source::Sockets { listen: "a".into(), connect: "b".into(), record, count };
-        let options = |source| Options { profile: Profile::Standard, format: Format::Text, shows_bytes: false, source };
+        let options =
+            |source| Options { profile: Profile::Standard, format: Format::Text, shows_bytes: false, pcapng: None, source };
         assert_eq!(Ok(Asked::Tap(options(sockets(None, None)))), parsed("a b"));
         assert_eq!(Ok(Asked::Tap(options(sockets(Some("f".into()), Some(3))))), parsed("--record f a --count=3 b"));
         assert_eq!(Ok(Asked::Tap(options(sockets(Some("f=".into()), None)))), parsed("a --record=f= b"));
         let recording = options(Source::Recording("f".into()));
         assert_eq!(Ok(Asked::Tap(recording.clone())), parsed("--replay=f"));
         assert_eq!(
-            Ok(Asked::Tap(Options { profile: Profile::Vhost, format: Format::Json, shows_bytes: true, ..recording })),
+            Ok(Asked::Tap(Options { profile: Profile::Vhost, format: Format::Json, shows_bytes: true, ..recording.clone() })),
             parsed("--json --hex --profile=vhost --replay f")
         );
+        let packets = Options { pcapng: Some("p=".into()), ..recording };
+        assert_eq!(Ok(Asked::Tap(packets.clone())), parsed("--pcapng=p= --replay=f"));
+        assert_eq!(Ok(Asked::Tap(packets)), parsed("--pcapng p= --replay f"));
         assert_eq!(Ok(Asked::Help), parsed("a b --help"));
     }
 
@@ -147,6 +157,8 @@ mod tests {
             "a",
             "a b c",
             "--replay",
+            "--pcapng",
+            "--pcapng=f",
             "--replay f a",
             "--replay f --count=1",
             "--profile=other a b",

@@ -24,10 +24,10 @@ impl Shower {
 
     /// The line of what is found of the event before it: behind '!' what is wrong, behind '~' what is not.
     pub(super) fn finding(&self, event: &Event, finding: &Finding) -> String {
-        let (mark, key) = match finding.kind {
-            Kind::Wrong => ("!", "complaint"),
-            Kind::Unanswered => ("~", "unanswered"),
-            Kind::Taken => ("~", "taken"),
+        let key = match finding.kind {
+            Kind::Wrong => "complaint",
+            Kind::Unanswered => "unanswered",
+            Kind::Taken => "taken",
         };
         match self.format {
             Format::Json => {
@@ -35,7 +35,7 @@ impl Shower {
                 fields.push((key, Json::text(&finding.text)));
                 Json::object(fields).to_string()
             }
-            Format::Text => format!("{mark} {}", finding.text),
+            Format::Text => format!("{} {}", mark(finding.kind), finding.text),
         }
     }
 
@@ -93,6 +93,14 @@ impl Shower {
         fields.extend(message.is_short.then_some(("short", Json::Bool(true))));
         fields.extend(self.shows_bytes.then(|| ("bytes", Json::text(hex_of(&message.bytes)))));
         fields
+    }
+}
+
+/// What a line of what is found begins with.
+pub(super) fn mark(kind: Kind) -> char {
+    match kind {
+        Kind::Wrong => '!',
+        Kind::Unanswered | Kind::Taken => '~',
     }
 }
 

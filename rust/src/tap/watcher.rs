@@ -8,6 +8,7 @@ use super::event::{Event, What};
 use super::finding::Finding;
 use super::judge::Judge;
 use super::options::{Format, Options};
+use super::packets::Packets;
 use super::recording::line_of;
 use super::show::Shower;
 use super::summary::Summary;
@@ -21,6 +22,7 @@ pub(super) struct Watcher<W: Write> {
     shower: Shower,
     output: BufWriter<W>,
     record: Option<BufWriter<File>>,
+    packets: Option<Packets>,
     judges: BTreeMap<u64, Judge>,
     summary: Summary,
     /// When the last event was.
@@ -46,12 +48,13 @@ fn long_wait(judge: &Judge) -> Option<f64> {
 }
 
 impl<W: Write> Watcher<W> {
-    pub(super) fn new(options: &Options, output: W, record: Option<File>) -> Watcher<W> {
+    pub(super) fn new(options: &Options, output: W, record: Option<File>, packets: Option<Packets>) -> Watcher<W> {
         Watcher {
             profile: options.profile,
             shower: Shower { format: options.format, shows_bytes: options.shows_bytes },
             output: BufWriter::new(output),
             record: record.map(BufWriter::new),
+            packets,
             judges: BTreeMap::new(),
             summary: Summary::default(),
             last: 0.0,
@@ -118,14 +121,16 @@ impl<W: Write> Watcher<W> {
         lines.extend(findings.iter().map(|finding| self.shower.finding(event, finding)));
         findings.iter().for_each(|finding| self.summary.count(finding.kind));
         let shown = writeln!(self.output, "{}", lines.join("\n"));
-        self.failed = self.failed.take().or(shown.err());
+        let packed = self.packets.as_mut().map_or(Ok(()), |packets| packets.put(event, findings));
+        self.failed = self.failed.take().or(shown.err()).or(packed.err());
     }
 
     /// All that was seen is shown and recorded from then on.
     pub(super) fn flush(&mut self) {
         let recorded = self.record.as_mut().map_or(Ok(()), Write::flush);
+        let packed = self.packets.as_mut().map_or(Ok(()), Packets::flush);
         let shown = self.output.flush();
-        self.failed = self.failed.take().or(recorded.err()).or(shown.err());
+        self.failed = self.failed.take().or(recorded.err()).or(packed.err()).or(shown.err());
     }
 
     /// Judges what is still awaited, unless something was seen by nobody. Shows what was seen in numbers, and ends.
@@ -157,8 +162,8 @@ mod tests {
     #[test]
     fn a_session_that_has_ended_is_forgotten() {
         let source = Source::Recording("none".into());
-        let options = Options { profile: Profile::Standard, format: Format::Text, shows_bytes: false, source };
-        let mut watcher = Watcher::new(&options, Vec::new(), None);
+        let options = Options { profile: Profile::Standard, format: Format::Text, shows_bytes: false, pcapng: None, source };
+        let mut watcher = Watcher::new(&options, Vec::new(), None, None);
         let mut see = |session, what| {
             watcher.see(&Event { time: 0.0, session, what });
             (watcher.judges.len(), watcher.summary.sessions)
