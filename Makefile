@@ -6,7 +6,8 @@
 #                         and covretin-console; and for x86-64 vhost-run and vhost-daemon, which are proved
 #   make check            the tests in C
 #   make install          all of these, and covretin, which runs them, to PREFIX, or BINDIR, LIBDIR, INCLUDEDIR, DATADIR, MANDIR, UNITDIR;
-#                         below DESTDIR; also build/covretin-tap and covretin-check, where cargo's were put there
+#                         below DESTDIR; also build/covretin-tap and covretin-check, where cargo's were put there; and the dissector for
+#                         Wireshark to PLUGINDIR, which Wireshark reads where it has the same PREFIX and LIBDIR
 #   make uninstall        removes what that put there
 #   make dist             covretin-VERSION.tar.xz, the same bytes wherever it is made, and SHA256SUMS
 #   make crate            the package for Rust as cargo packs it, in rust/target/package; CARGO names another cargo, with its options
@@ -25,6 +26,7 @@ DATADIR ?= $(PREFIX)/share
 UNITDIR ?= $(PREFIX)/lib/systemd/system
 DOCDIR ?= $(DATADIR)/doc/covretin
 MANDIR ?= $(DATADIR)/man
+PLUGINDIR ?= $(LIBDIR)/wireshark/plugins
 DESTDIR ?=
 INSTALL ?= install
 CFLAGS ?= -O2
@@ -135,7 +137,8 @@ check: all
 	@CC='$(CC)' AR='$(AR)' ./test-c --groups
 
 BACKENDS = $(DATADIR)/qemu/vhost-user
-FOLDERS = $(BINDIR) $(LIBDIR)/pkgconfig $(INCLUDEDIR) $(DATADIR)/covretin $(BACKENDS) $(UNITDIR) $(DOCDIR)/examples $(MANDIR)/man1 $(MANDIR)/man7
+FOLDERS = $(BINDIR) $(LIBDIR)/pkgconfig $(INCLUDEDIR) $(DATADIR)/covretin $(BACKENDS) $(UNITDIR) $(PLUGINDIR) $(DOCDIR)/examples $(MANDIR)/man1 \
+    $(MANDIR)/man7
 HEADERS := $(wildcard include/*.h)
 EXAMPLES := c/frontend.c c/rng.c c/blk.c c/net.c c/covretin_transport.h
 DESCRIPTORS := $(notdir $(wildcard c/tools/*.json))
@@ -172,6 +175,7 @@ install: all programs $(UNITS:%=$(BUILD)/%)
 	for name in $(DESCRIPTORS); do sed 's,@BINDIR@,$(BINDIR),' c/tools/$$name >$(BUILD)/$$name || exit; done
 	$(INSTALL) -m 644 $(DESCRIPTORS:%=$(BUILD)/%) $(DESTDIR)$(BACKENDS)
 	$(INSTALL) -m 644 $(UNITS:%=$(BUILD)/%) $(DESTDIR)$(UNITDIR)
+	$(INSTALL) -m 644 wireshark/vhost_user.lua $(DESTDIR)$(PLUGINDIR)
 	$(INSTALL) -m 644 $(PAGES1:%=man/%) $(DESTDIR)$(MANDIR)/man1
 	$(INSTALL) -m 644 $(PAGES7:%=man/%) $(DESTDIR)$(MANDIR)/man7
 
@@ -181,7 +185,7 @@ uninstall:
 	rm -f $(HEADERS:include/%=$(DESTDIR)$(INCLUDEDIR)/%)
 	rm -rf $(DESTDIR)$(DATADIR)/covretin $(DESTDIR)$(DOCDIR)
 	rm -f $(DESCRIPTORS:%=$(DESTDIR)$(BACKENDS)/%) $(UNITS:%=$(DESTDIR)$(UNITDIR)/%)
-	rm -f $(PAGES1:%=$(DESTDIR)$(MANDIR)/man1/%) $(PAGES7:%=$(DESTDIR)$(MANDIR)/man7/%)
+	rm -f $(DESTDIR)$(PLUGINDIR)/vhost_user.lua $(PAGES1:%=$(DESTDIR)$(MANDIR)/man1/%) $(PAGES7:%=$(DESTDIR)$(MANDIR)/man7/%)
 
 # Git says which files; what a tarball was unpacked to has no others. Each has the commit's time.
 SOURCE_DATE_EPOCH ?= $(shell if [ -e .git ]; then git log -1 --format=%ct; else stat -c %Y VERSION; fi)

@@ -3,9 +3,9 @@
 """scripts/requests.py: the tables of requests, from protocol/requests.toml.
 
 Written are those that scripts/request_tables.py names: codes and names in Rattle, Rust and C; what the headers for C say of arguments and replies;
-which calls there are in lines, with their words and help, and in the players of scripts; how a log copies and compares calls; and what the tap shows
-and expects of each. Compared are others, by hand: the calls' declarations in C and Rust and those of a device; records, codes and features on the
-pages of docs/protocol; and that each request has a script.
+which calls there are in lines, with their words and help, and in the players of scripts; how a log copies and compares calls; what the tap shows
+and expects of each; and what Wireshark shows. Compared are others, by hand: the calls' declarations in C and Rust and those of a device; records,
+codes and features on the pages of docs/protocol; the names of bits in Wireshark; and that each request has a script.
 
   scripts/requests.py          compares all
   scripts/requests.py --write  writes the tables that are made, and copies rows for what is like another one (scripts/request_rows.py); of the
@@ -188,6 +188,23 @@ def scripts(kinds, told):
         told.has("tests/scripts/display.txt", f"a call {it['call']}", is_made(it["call"], display))
 
 
+def dissector(kinds, told):
+    """The bits that the dissector for Wireshark names, beside those that the tap names."""
+    page, records, shown = "wireshark/vhost_user.lua", read("rust/src/vhost_user/message.rs"), read("rust/src/tap/layout.rs")
+
+    def flags(struct):
+        block = records.partition(f"pub struct {struct}: ")[2].partition("\n    }")[0]
+        numbers = re.findall(r"const (\w+) = (?:1 << (\d+)|0x([0-9a-f]+));", block)
+        return {int(shift) if shift else int(bits, 16).bit_length() - 1: name for name, shift, bits in numbers}
+
+    virtio = shown.partition("const VIRTIO")[2].partition("];")[0]
+    wanted = {"Features": {int(bit): name for bit, name in re.findall(r'\((\d+), "(\w+)"\)', virtio)}, "ProtocolFeatures": flags("VhostUserProtocolFeatures"),
+              "VringFlags": flags("VhostUserVringAddrFlags"), "ConfigFlags": flags("VhostUserConfigFlags")}
+    for form, bits in wanted.items():
+        found = re.search(rf"^    {form} = \{{(.*?)\}}", read(page), re.MULTILINE | re.DOTALL)
+        told.all(page, f"the name in {form} of bit", {int(bit): name for bit, name in re.findall(r'\[(\d+)\] = "(\w+)"', found[1] if found else "")}, bits)
+
+
 def show(kinds, names):
     """The entries of these names, and where they stand."""
     for name in names:
@@ -208,7 +225,7 @@ def main(names):
         return show(kinds, names)
     like_rows(TOP, kinds, told, bool(names))
     tables(kinds, told, bool(names))
-    for check in (calls, pages, scripts):
+    for check in (calls, pages, scripts, dissector):
         check(kinds, told)
     count = sum(map(len, kinds.values()))
     print("\n".join(told.lines + [f"requests: {count} entries, {told.compared} places compared, {len(told.lines)} wrong"]))

@@ -585,18 +585,20 @@ local function read_fields(bytes, fields, at)
     return values, at
 end
 
--- The records behind a head, as many as it says, and no more than there are. The head of one alone says none.
+-- The records behind a head, as many as it says, and no more than there are; and whether the size is right, which may have room for more. The
+-- head of one alone says none.
 local function records(bytes, fields, at)
     local found, said = {}, math.max(number_at(bytes, 0, 4), 1)
     local _, width = read_fields("", fields, 0)
+    local has_whole_ones = (#bytes - at) % width == 0
     while #found < said and at + width <= #bytes do
         table.insert(found, { at = at, width = width, values = (read_fields(bytes, fields, at)) })
         at = at + width
     end
-    return found, at
+    return found, has_whole_ones and #found == said
 end
 
--- Sizes that are not 0, each with its place, which is the number of its region.
+-- Sizes that are not 0, each with its place, which is the number of its region; and whether there are whole ones alone.
 local function sizes(bytes, fields, at)
     local found, first = {}, at
     while at + 8 <= #bytes do
@@ -608,18 +610,16 @@ local function sizes(bytes, fields, at)
         end
         at = at + 8
     end
-    return found, at
+    return found, at == #bytes
 end
 
 -- What a body has: values, records, and bytes, each with its place; and whether its layout fits its size.
 local function read_body(bytes, layout)
-    local body = { records = nil, values = {}, fits = true }
-    local at
-    body.values, at = read_fields(bytes, layout, 0)
+    local values, at = read_fields(bytes, layout, 0)
     if at > #bytes then return { values = {}, bytes = bytes, bytes_at = 0, bytes_name = "body", fits = false } end
+    local body = { values = values }
     if layout.of then
-        body.records, at = (layout.tail == "sizes" and sizes or records)(bytes, layout.of, at)
-        body.fits = at == #bytes
+        body.records, body.fits = (layout.tail == "sizes" and sizes or records)(bytes, layout.of, at)
         return body
     end
     local rest = bytes:sub(at + 1)

@@ -93,7 +93,8 @@ fn header(event: &Event, ticks: u64, said: &Said<'_>) -> Vec<u8> {
     put_list(&mut bytes, &message.fds, put_text);
     put_list(&mut bytes, &message.fds_at, put_count);
     put_list(&mut bytes, &message.cuts, put_count);
-    put_list(&mut bytes, said.text.as_slice(), put_text);
+    let texts: Vec<String> = said.text.iter().cloned().collect();
+    put_list(&mut bytes, &texts, put_text);
     let length = bytes.len() as u32;
     bytes[LENGTH_AT..LENGTH_AT + 4].copy_from_slice(&length.to_le_bytes());
     bytes
