@@ -7,7 +7,8 @@
 Each recording of rust/tests/recordings is replayed, and one more that this makes: each request and reply on both channels by bodies of many sizes,
 right and wrong, with odd descriptors, flags and ends. The tap writes each as text and as packets, and tshark reads the packets. Each line of the text
 has to be a packet with the same time, session, way and words, in its columns and in its fields, and with the same findings as its comments. The longest
-answer has to be that of the summary. Nothing of a real recording may be malformed, and the dissector may fail at no packet.
+answer has to be that of the summary, and a size is said to be wrong where it is. Nothing of a real recording may be malformed, and the dissector may
+fail at no packet. What docs/TAP.md shows of tshark is printed by it.
 
 It prints what differs, a line each, and last how many packets were compared. Status 0 where nothing differs, 1 where something does, 2 after wrong
 arguments, 3 where tshark is missing or loads no dissector.
@@ -17,6 +18,7 @@ import json
 import os
 import random
 import re
+import shlex
 import shutil
 import subprocess
 import sys
@@ -141,6 +143,22 @@ class Try:
         time, name = max(answers, key=lambda it: it[0], default=(0, ""))
         self.differs(where, "the longest answer", f"{time:.4f} s, to {name}" if answers else "none", longest)
 
+    def sizes(self, where, packets, recording):
+        """Which messages have another size than their header says: those alone are said to."""
+        with open(recording, encoding="utf-8") as file:
+            lines = [json.loads(line) for line in file]
+        sent = [(f"{it['t']:.4f}", bytes.fromhex(it["bytes"])) for it in lines if not it.get("short", True)]
+        wanted = [time for time, it in sent if len(it) >= 12 and int.from_bytes(it[8:12], "little") != len(it) - 12]
+        found = [f"{float(it['vhost_user.since_start']):.4f}" for it in packets if "The header says a body of" in it["_ws.expert.message"]]
+        self.differs(where, "which sizes are wrong", found, wanted)
+
+    def page(self, file):
+        """The page's command of tshark prints what stands below it."""
+        with open(f"{TOP}/docs/TAP.md", encoding="utf-8") as page:
+            command, *lines = re.search(r"    \$ tshark (.*(?:\n    [^$].*)+)", page.read())[1].split("\n")
+        words = [file if it == "session.pcapng" else it for it in shlex.split(command)]
+        self.differs("docs/TAP.md", "what tshark prints", self.tshark([*self.loads, *words]).splitlines(), [it[4:] for it in lines])
+
     def recording(self, recording, is_real):
         where, file = os.path.basename(recording), f"{self.folder}/packets"
         ran = subprocess.run([self.tap, f"--pcapng={file}", "--replay", recording], capture_output=True, text=True, check=False)
@@ -156,6 +174,9 @@ class Try:
         for at, (cells, row, event) in enumerate(zip(packets, columns, rows.events), 1):
             self.packet(f"{where}:{at}", cells, event)
             self.columns(f"{where}:{at}", row, event)
+        self.sizes(where, packets, recording)
+        if where == "mig_native-src.jsonl":
+            self.page(file)
         if is_real:
             self.answers(where, packets, rows.longest)
             self.told += [f"{where}:{at}: {it['_ws.expert.message']}" for at, it in enumerate(packets, 1) if "117440512" in it["_ws.expert.group"]]

@@ -6,6 +6,8 @@
 
 -- The sizes of a message's header, and of the greatest body.
 local HEADER, MOST = 12, 4096
+-- The layout of the tap's header that is read here, and how many bytes stand before its lists.
+local LAYOUT, FIXED = 1, 28
 -- The flags of a message's header, by their bits; and its version.
 local REPLY, NEED_REPLY, VERSION = 2, 3, 1
 -- The kinds of events, by their numbers in the tap's header.
@@ -429,6 +431,7 @@ local experts = {
     size = ProtoExpert.new("vhost_user.malformed", "The size is wrong", expert.group.MALFORMED, expert.severity.ERROR),
     short = ProtoExpert.new("vhost_user.cut_short", "It was cut short", expert.group.MALFORMED, expert.severity.ERROR),
     raw = ProtoExpert.new("vhost_user.no_message", "These bytes are no message", expert.group.MALFORMED, expert.severity.ERROR),
+    layout = ProtoExpert.new("vhost_user.layout", "Another version wrote it", expert.group.UNDECODED, expert.severity.WARN),
     request = ProtoExpert.new("vhost_user.unknown", "No request has this code", expert.group.UNDECODED, expert.severity.WARN),
 }
 
@@ -502,8 +505,8 @@ end
 
 -- The event that a packet is. Its ticks are ten thousandths of a second.
 local function event_of(bytes)
-    local read = reader(bytes, 1)
-    local event = { kind = read.number(1), way = read.number(1), is_short = read.number(1) == 1, length = read.number(4) }
+    local read = reader(bytes, 0)
+    local event = { layout = read.number(1), kind = read.number(1), way = read.number(1), is_short = read.number(1) == 1, length = read.number(4) }
     event.session = UInt64.new(read.number(8))
     local low, high = read.number(8)
     event.ticks = low + high * 2 ^ 32
@@ -666,7 +669,7 @@ local function event_text(event)
     if kind == MESSAGE then return message_text(event, event.message) end
     if kind == BYTES then return #event.bytes .. " bytes" end
     if kind == WAITS then return "waiting " .. (event.text or "") end
-    return (kind_names[kind] or "an event of another version") .. behind
+    return (kind_names[kind] or "an event of the kind " .. kind) .. behind
 end
 
 -- -- Replies --
@@ -822,8 +825,19 @@ local function set_columns(pinfo, event, text)
     pinfo.cols.dst = event.is_of_backend and "frontend" or "backend"
 end
 
+-- A packet whose header has another layout is shown as bytes.
+local function is_known(event, size)
+    return event.layout == LAYOUT and event.length >= FIXED and event.length <= size
+end
+
+local function add_unknown(tvb, pinfo, root)
+    pinfo.cols.info = "a packet of another version of covretin-tap"
+    root:add(protocol, tvb()):add(own.bytes, tvb()):add_proto_expert_info(experts.layout)
+end
+
 function protocol.dissector(tvb, pinfo, root)
     local event = event_of(tvb:raw())
+    if not is_known(event, tvb:len()) then return add_unknown(tvb, pinfo, root) end
     if event.kind == MESSAGE then
         event.message = message_of(event)
         event.message.read = read_body(event.message.body, layout_of(event, event.message))
