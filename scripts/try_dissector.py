@@ -6,9 +6,9 @@
 
 Each recording of rust/tests/recordings is replayed, and one more that this makes: each request and reply on both channels by bodies of many sizes,
 right and wrong, with odd descriptors, flags and ends. The tap writes each as text and as packets, and tshark reads the packets. Each line of the text
-has to be a packet with the same time, session, way and words, in its columns and in its fields, and with the same findings as its comments. The longest
-answer has to be that of the summary, and a size is said to be wrong where it is. Nothing of a real recording may be malformed, and the dissector may
-fail at no packet. What docs/TAP.md shows of tshark is printed by it.
+has to be a packet with the same time, session, way, words and numbers, in its columns and in its fields, and with the same findings as its comments.
+The longest answer has to be that of the summary, and a size is said to be wrong where it is. Nothing of a real recording may be malformed, and the
+dissector may fail at no packet. What docs/TAP.md shows of tshark is printed by it.
 
 It prints what differs, a line each, and last how many packets were compared. Status 0 where nothing differs, 1 where something does, 2 after wrong
 arguments, 3 where tshark is missing or loads no dissector.
@@ -24,6 +24,9 @@ import subprocess
 import sys
 import tempfile
 
+from request_tables import parts
+from requests import entries
+
 TOP = os.path.dirname(os.path.dirname(os.path.realpath(__file__)))
 DISSECTOR = f"{TOP}/wireshark/vhost_user.lua"
 LINE = re.compile(r" *(-?\d+\.\d{4}) (\d+) (?:((?:rev:)?(?:F>B|B>F)) )?(.*)")
@@ -31,6 +34,8 @@ LINE = re.compile(r" *(-?\d+\.\d{4}) (\d+) (?:((?:rev:)?(?:F>B|B>F)) )?(.*)")
 BETWEEN = "\x1f"
 FIELDS = ["frame.protocols", "frame.time_epoch", "vhost_user.session", "vhost_user.way_name", "vhost_user.line", "frame.comment", "vhost_user.time",
           "_ws.expert.message", "_ws.expert.group", "vhost_user.since_start"]
+# A number of a line, behind the name of its field; a word for a number is none.
+NUMBER = re.compile(r"[ \[](?!bytes|body)(\w+)=(0x[0-9a-f]+|\d+)\b")
 # How many characters of a column Wireshark keeps at least.
 COLUMN = 4000
 SIDES = {"F>B": ("frontend", "backend"), "B>F": ("backend", "frontend"), "rev:F>B": ("frontend", "backend"), "rev:B>F": ("backend", "frontend")}
@@ -51,6 +56,20 @@ class Rows:
                 self.longest = line.split(": ", 1)[1]
             elif event:
                 self.events.append((*event.groups(), []))
+
+
+def fields():
+    """The names of all fields that bodies have."""
+    shown = [it[key] for of in entries().values() for it in of for key in ("shown", "reply_shown") if key in it]
+    return sorted({name for it in shown for name, *_ in parts(it)[0] + parts(it)[2] if name})
+
+
+def numbers(line):
+    """The numbers of a line's fields, by their names. What descriptors are called is none of them."""
+    found = {}
+    for name, number in NUMBER.findall(line.partition(" fds=")[0]):
+        found.setdefault(name, []).append(int(number, 0))
+    return found
 
 
 def body(chance, size):
@@ -133,6 +152,9 @@ class Try:
         self.differs(where, "the time", [f"{float(cells[it]):.4f}" for it in ("frame.time_epoch", "vhost_user.since_start")], [time, time])
         self.differs(where, "the session and way", [cells["vhost_user.session"], cells["vhost_user.way_name"]], [session, way or ""])
         self.differs(where, "the line", cells["vhost_user.line"], words)
+        for name, wanted in numbers(words).items():
+            if f"vhost_user.{name}" in cells:
+                self.differs(where, f"the field {name}", [int(it, 0) for it in cells[f"vhost_user.{name}"].split(BETWEEN)], wanted)
         self.differs(where, "the comment", cells["frame.comment"], BETWEEN.join(found))
         if "Lua" in cells["_ws.expert.message"]:
             self.told.append(f"{where}: {cells['_ws.expert.message']}")
@@ -166,8 +188,9 @@ class Try:
             self.told.append(f"{where}: the tap ended by {ran.returncode}: {ran.stderr}")
             return
         rows = Rows(ran.stdout)
-        words = [it for field in FIELDS for it in ("-e", field)]
-        packets = [dict(zip(FIELDS, row)) for row in self.rows(file, ["-T", "fields", "-E", f"aggregator={BETWEEN}", *words])]
+        names = FIELDS + [f"vhost_user.{name}" for name in fields()]
+        words = [it for name in names for it in ("-e", name)]
+        packets = [dict(zip(names, row)) for row in self.rows(file, ["-T", "fields", "-E", f"aggregator={BETWEEN}", *words])]
         columns = self.rows(file, ["-T", "tabs", "-o", 'gui.column.format:"S","%s","P","%p","D","%d","I","%i"'])
         self.differs(where, "the number of packets", [len(packets), len(columns)], [len(rows.events)] * 2)
         self.packets += len(packets)
