@@ -7,6 +7,7 @@ use std::fs::{create_dir, read, read_dir, remove_dir_all, write, File};
 use std::io::Read;
 use std::os::unix::ffi::OsStrExt;
 use std::os::unix::net::{UnixListener, UnixStream};
+use std::os::unix::process::ExitStatusExt;
 use std::path::{Path, PathBuf};
 use std::process::{Command, Output, Stdio};
 use std::thread;
@@ -128,6 +129,13 @@ fn packets_that_cannot_be_written() {
     assert_eq!(session.as_bytes(), read(&recorded).unwrap());
 }
 
+/// Makes a pipe that has a path.
+fn make_pipe(path: &str) {
+    let path = CString::new(Path::new(path).as_os_str().as_bytes()).unwrap();
+    // SAFETY: it is a path with an end.
+    assert_eq!(0, unsafe { libc::mkfifo(path.as_ptr(), 0o600) });
+}
+
 /// A pipe to Wireshark that nobody reads any more: all is shown, and the status says that not all was written.
 #[test]
 fn a_reader_that_leaves() {
@@ -135,9 +143,7 @@ fn a_reader_that_leaves() {
     let (recorded, pipe) = (folder.path("recorded"), folder.path("pipe"));
     let requests = (0..64).map(|_| (Side::Frontend, message(24, ASKS, &[0; 4096]), 0)).collect::<Vec<_>>();
     write(&recorded, recording(&requests)).unwrap();
-    let path = CString::new(Path::new(&pipe).as_os_str().as_bytes()).unwrap();
-    // SAFETY: it is a path with an end.
-    assert_eq!(0, unsafe { libc::mkfifo(path.as_ptr(), 0o600) });
+    make_pipe(&pipe);
     let reads = pipe.clone();
     let reading = thread::spawn(move || File::open(reads).unwrap().read_exact(&mut [0; 28]).unwrap());
     let output = tap(&["--replay", &recorded, "--pcapng", &pipe]);
@@ -145,6 +151,33 @@ fn a_reader_that_leaves() {
     assert_eq!(format!("covretin-tap: {pipe}: Broken pipe (os error 32)\n"), failed_by(&output));
     // (one line says that the first is awaited)
     assert_eq!(requests.len() + 2, times(&output).len());
+}
+
+/// A tap that waits until somebody reads its pipe does not listen before, and a signal ends it.
+#[test]
+fn a_pipe_that_nobody_reads() {
+    let folder = Folder::new();
+    let [listen, connect, pipe] = ["listen", "connect", "pipe"].map(|it| folder.path(it));
+    make_pipe(&pipe);
+    let spawned = || {
+        Command::new(env!("CARGO_BIN_EXE_covretin-tap"))
+            .args(["--count=1", "--pcapng", &pipe, &listen, &connect])
+            .spawn()
+            .unwrap()
+    };
+    let mut child = spawned();
+    thread::sleep(Duration::from_millis(200));
+    assert!(!Path::new(&listen).exists());
+    // SAFETY: it is the number of a child that was not waited for.
+    assert_eq!(0, unsafe { libc::kill(child.id() as i32, libc::SIGTERM) });
+    assert_eq!(Some(libc::SIGTERM), child.wait().unwrap().signal());
+    // Another one goes on once it is read.
+    let mut child = spawned();
+    let mut reader = File::open(&pipe).unwrap();
+    drop(connected(&listen));
+    let mut file = Vec::new();
+    reader.read_to_end(&mut file).unwrap();
+    assert_eq!((Some(4), 1), (child.wait().unwrap().code(), packets(&file).len()));
 }
 
 /// Waits until a file has so many packets.

@@ -76,13 +76,15 @@ fn tap(options: &Options, output: impl Write + Send + 'static) -> io::Result<Ver
     match &options.source {
         Source::Recording(file) => {
             let lines = BufReader::new(File::open(file).map_err(about(file))?);
-            let packets = packets(options, Some(file), Duration::ZERO)?;
+            let packets = packets(options, None, Some(file), Duration::ZERO)?;
             replay(Watcher::new(options, output, None, packets), file, lines)
         }
         Source::Sockets { listen, connect, record, count } => {
+            // Before signals are blocked, since that waits for who reads it.
+            let pipe = options.pcapng.as_deref().and_then(packets::opened_pipe).transpose()?;
             let watcher = |file| {
                 let started = SystemTime::now().duration_since(SystemTime::UNIX_EPOCH).unwrap_or_default();
-                Ok(Watcher::new(options, output, file, packets(options, record.as_deref(), started)?))
+                Ok(Watcher::new(options, output, file, packets(options, pipe, record.as_deref(), started)?))
             };
             tap_sockets(watcher, listen, connect, record.as_deref(), *count)
         }
@@ -90,8 +92,12 @@ fn tap(options: &Options, output: impl Write + Send + 'static) -> io::Result<Ver
 }
 
 /// The file of packets, where one is wanted.
-fn packets(options: &Options, recording: Option<&Path>, started: Duration) -> io::Result<Option<Packets>> {
-    options.pcapng.as_deref().map(|path| Packets::create(path, recording, started)).transpose()
+fn packets(options: &Options, pipe: Option<File>, recording: Option<&Path>, started: Duration) -> io::Result<Option<Packets>> {
+    let made = |path| match pipe {
+        Some(pipe) => Packets::over(pipe, path, started),
+        None => Packets::create(path, recording, started),
+    };
+    options.pcapng.as_deref().map(made).transpose()
 }
 
 /// An error, with the path that it is about.

@@ -2,7 +2,7 @@
 //! Writes what is seen to a file of packets, which Wireshark reads: each event as one packet, and what is found of it as its comments.
 use std::fs::{metadata, File};
 use std::io::{self, BufWriter, Write};
-use std::os::unix::fs::MetadataExt;
+use std::os::unix::fs::{FileTypeExt, MetadataExt};
 use std::path::{Path, PathBuf};
 use std::time::Duration;
 
@@ -30,19 +30,30 @@ fn is_same_file(a: &Path, b: &Path) -> bool {
     file(a).map_or(false, |it| Some(it) == file(b))
 }
 
+/// A pipe of this path, where it is one, once somebody reads it.
+pub(super) fn opened_pipe(path: &Path) -> Option<io::Result<File>> {
+    let is_pipe = metadata(path).map_or(false, |it| it.file_type().is_fifo());
+    is_pipe.then(|| File::create(path).map_err(about(path)))
+}
+
 /// The time of an event in ticks. One before the start, which a recording may have, is at the start.
 fn ticks_of(time: f64) -> u64 {
     (time * TICKS).round() as u64
 }
 
 impl Packets {
-    /// Makes the file, unless it is that of the recording. Its first blocks are written before there is an event.
+    /// Makes the file, unless it is that of the recording.
     pub(super) fn create(path: &Path, recording: Option<&Path>, started: Duration) -> io::Result<Packets> {
         if recording.map_or(false, |it| is_same_file(it, path)) {
             let text = format!("{}: it is the recording, and can't be the file of packets too", path.display());
             return Err(io::Error::new(io::ErrorKind::InvalidInput, text));
         }
-        let file = BufWriter::new(File::create(path).map_err(about(path))?);
+        Packets::over(File::create(path).map_err(about(path))?, path, started)
+    }
+
+    /// Over an open file of this path. Its first blocks are written before there is an event.
+    pub(super) fn over(file: File, path: &Path, started: Duration) -> io::Result<Packets> {
+        let file = BufWriter::new(file);
         let mut packets = Packets { file, path: path.to_path_buf(), started: started.as_micros() as u64 };
         let application = concat!("covretin-tap ", env!("CARGO_PKG_VERSION"));
         let description = match started {
