@@ -160,10 +160,9 @@ fn a_pipe_that_nobody_reads() {
     let [listen, connect, pipe] = ["listen", "connect", "pipe"].map(|it| folder.path(it));
     make_pipe(&pipe);
     let spawned = || {
-        Command::new(env!("CARGO_BIN_EXE_covretin-tap"))
-            .args(["--count=1", "--pcapng", &pipe, &listen, &connect])
-            .spawn()
-            .unwrap()
+        let mut command = Command::new(env!("CARGO_BIN_EXE_covretin-tap"));
+        command.args(["--count=1", "--pcapng", &pipe, &listen, &connect]);
+        command.stdout(Stdio::null()).stderr(Stdio::null()).spawn().unwrap()
     };
     let mut child = spawned();
     thread::sleep(Duration::from_millis(200));
