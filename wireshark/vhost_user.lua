@@ -627,7 +627,7 @@ local function read_body(bytes, layout)
     end
     local rest = bytes:sub(at + 1)
     body.fits = rest == "" or layout.tail == "bytes" and not layout.empty
-    if rest:find("[^%z]") or rest ~= "" and layout.tail ~= "bytes" then
+    if rest:find("[^\0]") or rest ~= "" and layout.tail ~= "bytes" then
         body.bytes, body.bytes_at, body.bytes_name = rest, at, "bytes"
     end
     return body
