@@ -4,6 +4,8 @@ mod cases;
 mod connection;
 mod device;
 mod frontend;
+#[path = "../../src/tap/markup.rs"]
+mod markup;
 mod options;
 mod patience;
 mod report;

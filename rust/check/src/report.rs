@@ -2,6 +2,7 @@
 //! What came of all cases, as lines, JUnit, JSON and a page.
 use std::fmt::Write;
 
+use crate::markup::escaped;
 use crate::run::{Outcome, Verdict, VERDICTS};
 use crate::table::Row;
 
@@ -40,24 +41,6 @@ pub fn explanation_of(row: &Row, is_programmed: bool) -> String {
         "{} {}\n\nSection:   {}\nIs tried:  {}\nExpected:  {}\n\n{sentence}{more}",
         row.id, row.level, row.section, row.provoked, row.expected
     )
-}
-
-/// Text in which no letter has a meaning in XML or HTML.
-fn escaped(text: &str) -> String {
-    let mut out = String::new();
-    for letter in text.chars() {
-        match letter {
-            '&' => out.push_str("&amp;"),
-            '<' => out.push_str("&lt;"),
-            '>' => out.push_str("&gt;"),
-            '"' => out.push_str("&quot;"),
-            '\'' => out.push_str("&#39;"),
-            '\n' | '\t' => out.push(' '),
-            other if other.is_control() => out.push('?'),
-            other => out.push(other),
-        }
-    }
-    out
 }
 
 /// The report as JUnit has it.

@@ -1,6 +1,7 @@
 // SPDX-License-Identifier: Apache-2.0
 //! The program `covretin-tap`: it passes a session of vhost-user on, shows its messages, and judges them by the proved core.
 mod call;
+mod colours;
 mod differences;
 mod event;
 mod exported;
@@ -9,13 +10,17 @@ mod gathering;
 mod json;
 mod judge;
 mod layout;
+mod markup;
 mod open_sockets;
 mod options;
 mod packets;
+mod page;
+mod page_row;
 mod passing;
 mod pcapng;
 mod recording;
 mod refused;
+mod replies;
 mod reporter;
 mod show;
 mod sockets;
@@ -24,8 +29,9 @@ mod unserved;
 mod watcher;
 
 use std::ffi::OsString;
-use std::fs::{remove_file, File};
+use std::fs::{metadata, remove_file, File};
 use std::io::{self, BufRead, BufReader, Write};
+use std::os::unix::fs::MetadataExt;
 use std::path::{Path, PathBuf};
 use std::process::ExitCode;
 use std::thread;
@@ -33,6 +39,7 @@ use std::time::{Duration, SystemTime};
 
 use options::{Asked, Options, Source};
 use packets::Packets;
+use page::Page;
 use reporter::{Next, Notes, Reporter};
 use watcher::{Verdict, Watcher};
 
@@ -75,16 +82,21 @@ fn say(output: &mut impl Write, text: &str) -> io::Result<Verdict> {
 fn tap(options: &Options, output: impl Write + Send + 'static) -> io::Result<Verdict> {
     match &options.source {
         Source::Recording(file) => {
-            let lines = BufReader::new(File::open(file).map_err(about(file))?);
+            let lines = File::open(file).map_err(about(file))?;
+            let name = file.file_name().unwrap_or(file.as_os_str()).to_string_lossy();
+            let page = page_of(options, &name, Some(&lines))?;
             let packets = packets(options, None, Some(file), Duration::ZERO)?;
-            replay(Watcher::new(options, output, None, packets), file, lines)
+            replay(Watcher::new(options, output, None, packets).with_page(page), file, BufReader::new(lines))
         }
         Source::Sockets { listen, connect, record, count } => {
             // Before signals are blocked, since that waits for who reads it.
             let pipe = options.pcapng.as_deref().and_then(packets::opened_pipe).transpose()?;
-            let watcher = |file| {
+            let title = format!("{}, passed on to {}", listen.display(), connect.display());
+            let watcher = |file: Option<File>| {
+                let page = page_of(options, &title, file.as_ref())?;
                 let started = SystemTime::now().duration_since(SystemTime::UNIX_EPOCH).unwrap_or_default();
-                Ok(Watcher::new(options, output, file, packets(options, pipe, record.as_deref(), started)?))
+                let packets = packets(options, pipe, record.as_deref(), started)?;
+                Ok(Watcher::new(options, output, file, packets).with_page(page))
             };
             tap_sockets(watcher, listen, connect, record.as_deref(), *count)
         }
@@ -98,6 +110,21 @@ fn packets(options: &Options, pipe: Option<File>, recording: Option<&Path>, star
         None => Packets::create(path, recording, started),
     };
     options.pcapng.as_deref().map(made).transpose()
+}
+
+/// The page that is asked for, if one is. It does not take the place of the recording that is read or written.
+fn page_of(options: &Options, title: &str, recording: Option<&File>) -> io::Result<Option<Page<File>>> {
+    let path = match &options.html {
+        Some(path) => path,
+        None => return Ok(None),
+    };
+    if let (Some(recording), Ok(old)) = (recording, metadata(path)) {
+        let recorded = recording.metadata()?;
+        if (recorded.dev(), recorded.ino()) == (old.dev(), old.ino()) {
+            return Err(about(path)(io::Error::new(io::ErrorKind::AlreadyExists, "it is the recording")));
+        }
+    }
+    Page::create(path, title, options.shows_bytes).map(Some)
 }
 
 /// An error, with the path that it is about.

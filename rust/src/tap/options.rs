@@ -8,8 +8,9 @@ use crate::vhost_user::Profile;
 
 /// What the program prints where it is called in another way.
 pub(super) const USAGE: &str = "\
-usage: covretin-tap [--profile=standard|vhost] [--json] [--hex] [--pcapng=FILE] [--record=FILE] [--count=N] LISTEN CONNECT
-       covretin-tap [--profile=standard|vhost] [--json] [--hex] [--pcapng=FILE] --replay=FILE";
+usage: covretin-tap [--profile=standard|vhost] [--json] [--hex] [--html=FILE] [--pcapng=FILE]
+                    [--record=FILE] [--count=N] LISTEN CONNECT
+       covretin-tap [--profile=standard|vhost] [--json] [--hex] [--html=FILE] [--pcapng=FILE] --replay=FILE";
 
 /// What is said of it by --help.
 pub(super) const HELP: &str = "
@@ -20,6 +21,7 @@ than the backend ended the session, and what is not by the letter, but taken by 
   --profile=P    which table: standard, that of the specification and of real peers, or vhost, that of the crate vhost
   --json         a line of JSON for each event
   --hex          the bytes of each message
+  --html=FILE    writes what is seen to FILE, a page that a browser shows without anything beside it
   --pcapng=FILE  writes what is seen to FILE as packets, which Wireshark reads
   --record=FILE  writes what is seen to FILE, a line of JSON each
   --count=N      ends with the Nth session; without it the tap ends by SIGINT or SIGTERM, and with it all sessions
@@ -47,6 +49,8 @@ pub(super) struct Options {
     pub(super) profile: Profile,
     pub(super) format: Format,
     pub(super) shows_bytes: bool,
+    /// The page that is written.
+    pub(super) html: Option<PathBuf>,
     /// The file of packets.
     pub(super) pcapng: Option<PathBuf>,
     pub(super) source: Source,
@@ -64,7 +68,7 @@ pub(super) enum Asked {
 pub(super) fn parse(words: impl IntoIterator<Item = OsString>) -> Result<Asked, String> {
     let mut words = words.into_iter();
     let (mut profile, mut format, mut shows_bytes) = (Profile::Standard, Format::Text, false);
-    let (mut record, mut replay, mut count, mut paths) = (None, None, None, Vec::new());
+    let (mut html, mut record, mut replay, mut count, mut paths) = (None, None, None, None, Vec::new());
     let mut pcapng = None;
     while let Some(word) = words.next() {
         let mut file = |name: &str| words.next().map(PathBuf::from).ok_or(format!("{name} wants a file"));
@@ -73,11 +77,13 @@ pub(super) fn parse(words: impl IntoIterator<Item = OsString>) -> Result<Asked, 
             b"--version" => return Ok(Asked::Version),
             b"--json" => format = Format::Json,
             b"--hex" => shows_bytes = true,
+            b"--html" => html = Some(file("--html")?),
             b"--record" => record = Some(file("--record")?),
             b"--replay" => replay = Some(file("--replay")?),
             b"--pcapng" => pcapng = Some(file("--pcapng")?),
             b"--profile=standard" => profile = Profile::Standard,
             b"--profile=vhost" => profile = Profile::Vhost,
+            bytes if bytes.starts_with(b"--html=") => html = Some(path_of(&bytes["--html=".len()..])),
             bytes if bytes.starts_with(b"--record=") => record = Some(path_of(&bytes["--record=".len()..])),
             bytes if bytes.starts_with(b"--replay=") => replay = Some(path_of(&bytes["--replay=".len()..])),
             bytes if bytes.starts_with(b"--pcapng=") => pcapng = Some(path_of(&bytes["--pcapng=".len()..])),
@@ -91,7 +97,7 @@ pub(super) fn parse(words: impl IntoIterator<Item = OsString>) -> Result<Asked, 
         }
     }
     let source = source(paths, replay, record, count)?;
-    Ok(Asked::Tap(Options { profile, format, shows_bytes, pcapng, source }))
+    Ok(Asked::Tap(Options { profile, format, shows_bytes, html, pcapng, source }))
 }
 
 fn path_of(bytes: &[u8]) -> PathBuf {
@@ -133,8 +139,14 @@ mod tests {
     #[test]
     fn sockets_and_a_recording() {
         let sockets = |record, count| Source::Sockets { listen: "a".into(), connect: "b".into(), record, count };
-        let options =
-            |source| Options { profile: Profile::Standard, format: Format::Text, shows_bytes: false, pcapng: None, source };
+        let options = |source| Options {
+            profile: Profile::Standard,
+            format: Format::Text,
+            shows_bytes: false,
+            html: None,
+            pcapng: None,
+            source,
+        };
         assert_eq!(Ok(Asked::Tap(options(sockets(None, None)))), parsed("a b"));
         assert_eq!(Ok(Asked::Tap(options(sockets(Some("f".into()), Some(3))))), parsed("--record f a --count=3 b"));
         assert_eq!(Ok(Asked::Tap(options(sockets(Some("f=".into()), None)))), parsed("a --record=f= b"));
@@ -144,6 +156,9 @@ mod tests {
             Ok(Asked::Tap(Options { profile: Profile::Vhost, format: Format::Json, shows_bytes: true, ..recording.clone() })),
             parsed("--json --hex --profile=vhost --replay f")
         );
+        let page = Options { html: Some("p".into()), ..recording.clone() };
+        assert_eq!(Ok(Asked::Tap(page.clone())), parsed("--html=p --replay=f"));
+        assert_eq!(Ok(Asked::Tap(page)), parsed("--replay f --html p"));
         let packets = Options { pcapng: Some("p=".into()), ..recording };
         assert_eq!(Ok(Asked::Tap(packets.clone())), parsed("--pcapng=p= --replay=f"));
         assert_eq!(Ok(Asked::Tap(packets)), parsed("--pcapng p= --replay f"));
@@ -159,6 +174,7 @@ mod tests {
             "--replay",
             "--pcapng",
             "--pcapng=f",
+            "a b --html",
             "--replay f a",
             "--replay f --count=1",
             "--profile=other a b",

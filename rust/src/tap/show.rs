@@ -40,19 +40,12 @@ impl Shower {
     }
 
     fn text(&self, event: &Event) -> String {
-        let head = |way: &Way| format!("{:9.4} {} {way}", event.time, event.session);
-        match &event.what {
-            What::Connected(Ok(())) => format!("{:9.4} {} connected", event.time, event.session),
-            What::Connected(Err(cause)) => format!("{:9.4} {} not connected: {cause}", event.time, event.session),
-            What::Ended(way, None) => format!("{} end", head(way)),
-            What::Ended(way, Some(cause)) => format!("{} end: {cause}", head(way)),
-            What::Waits(seconds, name) => format!("{} waiting {seconds} s for the reply to {name}", head(&TO_FRONTEND)),
-            What::Left => format!("{:9.4} {} no more was seen", event.time, event.session),
-            What::Bytes(way, bytes) => format!("{} {} bytes{}", head(way), bytes.len(), self.bytes_text(bytes)),
-            What::Message(way, message) => {
-                format!("{} {}{}", head(way), message_text(*way, message), self.bytes_text(&message.bytes))
-            }
-        }
+        let way = way_of(&event.what).map_or_else(String::new, |way| format!("{way} "));
+        let bytes = match &event.what {
+            What::Bytes(_, bytes) | What::Message(_, Message { bytes, .. }) => self.bytes_text(bytes),
+            _ => String::new(),
+        };
+        format!("{:9.4} {} {way}{}{bytes}", event.time, event.session, told(&event.what))
     }
 
     fn bytes_text(&self, bytes: &[u8]) -> String {
@@ -104,22 +97,47 @@ pub(super) fn mark(kind: Kind) -> char {
     }
 }
 
-/// What each line of JSON begins with.
-fn head(event: &Event) -> Vec<(&'static str, Json)> {
-    let way = match &event.what {
+/// What happened, in words.
+pub(super) fn told(what: &What) -> String {
+    match what {
+        What::Connected(Ok(())) => "connected".to_string(),
+        What::Connected(Err(cause)) => format!("not connected: {cause}"),
+        What::Ended(_, None) => "end".to_string(),
+        What::Ended(_, Some(cause)) => format!("end: {cause}"),
+        What::Waits(seconds, name) => format!("waiting {seconds} s for the reply to {name}"),
+        What::Left => "no more was seen".to_string(),
+        What::Bytes(_, bytes) => format!("{} bytes", bytes.len()),
+        What::Message(way, message) => message_text(*way, message),
+    }
+}
+
+/// The way that an event is about, if it is about one.
+pub(super) fn way_of(what: &What) -> Option<Way> {
+    match what {
         What::Connected(_) | What::Left => None,
         What::Waits(..) => Some(TO_FRONTEND),
         What::Message(way, _) | What::Bytes(way, _) | What::Ended(way, _) => Some(*way),
-    };
-    let way = way.map(|way| ("way", Json::text(way.to_string())));
+    }
+}
+
+/// What each line of JSON begins with.
+fn head(event: &Event) -> Vec<(&'static str, Json)> {
+    let way = way_of(&event.what).map(|way| ("way", Json::text(way.to_string())));
     let mut fields = vec![("t", time_of(event.time)), ("session", Json::Number(event.session as f64))];
     fields.extend(way);
     fields
 }
 
+/// What a message asks, or replies to. One that ends in its header has no name.
+pub(super) fn title_of(way: Way, message: &Message) -> String {
+    if message.bytes.len() < super::event::HEADER {
+        return "a part of a header".to_string();
+    }
+    name_of(way, message)
+}
+
 fn message_text(way: Way, message: &Message) -> String {
-    let mut text =
-        if message.bytes.len() < super::event::HEADER { "a part of a header".to_string() } else { name_of(way, message) };
+    let mut text = title_of(way, message);
     let flags = flag_names(message);
     if !flags.is_empty() {
         text += &format!(" [{}]", flags.join(" "));
@@ -131,9 +149,14 @@ fn message_text(way: Way, message: &Message) -> String {
         text += &format!(" fds={}", fds.join(",").replace(char::is_control, "?"));
     }
     if message.is_short {
-        text += &format!(" (cut short: {} bytes)", message.bytes.len());
+        text += &format!(" {}", cut_text(message));
     }
     text
+}
+
+/// What is said of a message that did not come whole.
+pub(super) fn cut_text(message: &Message) -> String {
+    format!("(cut short: {} bytes)", message.bytes.len())
 }
 
 /// Fields, each behind a space.
@@ -143,15 +166,25 @@ pub(super) fn fields_text(fields: &Fields) -> String {
 
 fn field_text(name: &str, value: &Value) -> String {
     match value {
-        Value::Number(number) => format!("{name}={number}"),
-        Value::Address(number) => format!("{name}={number:#x}"),
-        Value::Word(word) => format!("{name}={word}"),
-        Value::Bits(bits, names) => format!("{name}={bits:#x}({})", names.join("|")),
-        Value::Bytes(bytes) => format!("{name}={}", hex_of(bytes)),
-        Value::Records(records) => {
-            let records: Vec<String> = records.iter().map(|fields| format!("[{}]", fields_text(fields).trim_start())).collect();
-            records.join(" ")
-        }
+        Value::Records(records) => record_texts(records).join(" "),
+        value => format!("{name}={}", value_text(value)),
+    }
+}
+
+/// Each record, between brackets.
+pub(super) fn record_texts(records: &[Fields]) -> Vec<String> {
+    records.iter().map(|fields| format!("[{}]", fields_text(fields).trim_start())).collect()
+}
+
+/// A value without its name.
+pub(super) fn value_text(value: &Value) -> String {
+    match value {
+        Value::Number(number) => number.to_string(),
+        Value::Address(number) => format!("{number:#x}"),
+        Value::Word(word) => word.clone(),
+        Value::Bits(bits, names) => format!("{bits:#x}({})", names.join("|")),
+        Value::Bytes(bytes) => hex_of(bytes),
+        Value::Records(records) => record_texts(records).join(" "),
     }
 }
 

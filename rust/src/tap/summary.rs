@@ -50,7 +50,7 @@ impl Summary {
     }
 
     /// How many of each kind were found.
-    fn verdict(&self) -> String {
+    pub(super) fn verdict(&self) -> String {
         let told = |count: usize, name: &str| (count != 0).then(|| format!("{name}: {count}"));
         let wrong = [told(self.complaints, "wrong"), told(self.unconnected, "not connected")];
         let nothing = (self.complaints + self.unconnected == 0).then(|| "nothing is wrong".to_string());
@@ -70,20 +70,23 @@ impl Summary {
     }
 
     pub(super) fn text(&self) -> String {
+        let lines = self.lines().into_iter().chain([self.verdict()]);
+        lines.map(|line| format!("= {line}")).collect::<Vec<String>>().join("\n")
+    }
+
+    /// The lines that stand above the verdict.
+    pub(super) fn lines(&self) -> [String; 4] {
         let requests: Vec<String> = self.requests.iter().map(|(name, count)| format!("{name} {count}")).collect();
+        let requests = if requests.is_empty() { "none".to_string() } else { requests.join(", ") };
         let longest = self.tally.longest.as_ref();
         let longest = longest.map_or_else(|| "none".to_string(), |(time, name)| format!("{time:.4} s, to {name}"));
-        format!(
-            "= sessions {}, messages F>B {} and B>F {}\n= requests: {}\n= refused by the table {}, by the backend {}\n\
-             = longest answer: {longest}\n= {}",
-            self.sessions,
-            self.from_the_frontend,
-            self.from_the_backend,
-            if requests.is_empty() { "none".to_string() } else { requests.join(", ") },
-            self.tally.refused_by_the_table,
-            self.tally.refused_by_the_backend,
-            self.verdict()
-        )
+        let Tally { refused_by_the_table, refused_by_the_backend, .. } = self.tally;
+        [
+            format!("sessions {}, messages F>B {} and B>F {}", self.sessions, self.from_the_frontend, self.from_the_backend),
+            format!("requests: {requests}"),
+            format!("refused by the table {refused_by_the_table}, by the backend {refused_by_the_backend}"),
+            format!("longest answer: {longest}"),
+        ]
     }
 
     pub(super) fn json(&self) -> Json {

@@ -9,6 +9,7 @@ use super::finding::Finding;
 use super::judge::Judge;
 use super::options::{Format, Options};
 use super::packets::Packets;
+use super::page::Page;
 use super::recording::line_of;
 use super::show::Shower;
 use super::summary::Summary;
@@ -23,6 +24,7 @@ pub(super) struct Watcher<W: Write> {
     output: BufWriter<W>,
     record: Option<BufWriter<File>>,
     packets: Option<Packets>,
+    page: Option<Page<File>>,
     judges: BTreeMap<u64, Judge>,
     summary: Summary,
     /// When the last event was.
@@ -55,12 +57,18 @@ impl<W: Write> Watcher<W> {
             output: BufWriter::new(output),
             record: record.map(BufWriter::new),
             packets,
+            page: None,
             judges: BTreeMap::new(),
             summary: Summary::default(),
             last: 0.0,
             unconnected: None,
             failed: None,
         }
+    }
+
+    /// The same, and what it sees is a row of this page.
+    pub(super) fn with_page(self, page: Option<Page<File>>) -> Watcher<W> {
+        Watcher { page, ..self }
     }
 
     /// Takes an event. It is shown at the latest with the next `flush`.
@@ -122,7 +130,11 @@ impl<W: Write> Watcher<W> {
         findings.iter().for_each(|finding| self.summary.count(finding.kind));
         let shown = writeln!(self.output, "{}", lines.join("\n"));
         let packed = self.packets.as_mut().map_or(Ok(()), |packets| packets.put(event, findings));
-        self.failed = self.failed.take().or(shown.err()).or(packed.err());
+        let paged = self.page.as_mut().map_or(Ok(()), |page| page.put(event, findings));
+        if paged.is_err() {
+            self.page = None;
+        }
+        self.failed = self.failed.take().or(shown.err()).or(packed.err()).or(paged.err());
     }
 
     /// All that was seen is shown and recorded from then on.
@@ -148,7 +160,9 @@ impl<W: Write> Watcher<W> {
         };
         let shown = writeln!(self.output, "{summary}");
         self.flush();
-        Verdict { complaints: self.summary.complaints, unconnected: self.unconnected, failed: self.failed.or(shown.err()) }
+        let paged = self.page.take().map_or(Ok(()), |page| page.finish(&self.summary));
+        let failed = self.failed.or(shown.err()).or(paged.err());
+        Verdict { complaints: self.summary.complaints, unconnected: self.unconnected, failed }
     }
 }
 
@@ -162,7 +176,8 @@ mod tests {
     #[test]
     fn a_session_that_has_ended_is_forgotten() {
         let source = Source::Recording("none".into());
-        let options = Options { profile: Profile::Standard, format: Format::Text, shows_bytes: false, pcapng: None, source };
+        let options =
+            Options { profile: Profile::Standard, format: Format::Text, shows_bytes: false, html: None, pcapng: None, source };
         let mut watcher = Watcher::new(&options, Vec::new(), None, None);
         let mut see = |session, what| {
             watcher.see(&Event { time: 0.0, session, what });
