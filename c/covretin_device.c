@@ -338,7 +338,10 @@ static enum covretin_error take_frontend(struct session *session, covretin_liste
         return error;
     if (!poll_for(session, listener != NULL ? covretin_service_fd(&session->frontend) : fd, SOCKET))
         return COVRETIN_SOCKET_ERROR;
-    return listener != NULL ? COVRETIN_OK : covretin_serve_fd(&session->frontend, fd);
+    error = listener != NULL ? COVRETIN_OK : covretin_serve_fd(&session->frontend, fd);
+    if (error == COVRETIN_OK && session->calls->other != NULL)
+        covretin_backend_set_other(&session->frontend, answer_other, session);
+    return error;
 }
 
 static enum covretin_error open_session(covretin_device *device, const covretin_device_calls *calls, void *own,

@@ -593,3 +593,13 @@ enum covretin_error answer_call(struct session *session, uint32_t call)
     answer *answers = answer_of(call);
     return answers == NULL ? reply(session, false) : answers(session);
 }
+
+int answer_other(void *context, uint32_t request, const uint8_t *bytes, size_t len, const int32_t *fds, size_t count)
+{
+    struct session *session = context;
+    bool is_served;
+    pthread_mutex_unlock(&session->lock);
+    is_served = session->calls->other(session->own, request, bytes, len, fds, count);
+    pthread_mutex_lock(&session->lock);
+    return is_served ? 0 : -1;
+}

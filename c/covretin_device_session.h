@@ -227,6 +227,9 @@ bool poll_for(const struct session *session, int fd, uint32_t of);
 /* Answers a call of the frontend: an error of the reply. */
 enum covretin_error answer_call(struct session *session, uint32_t call);
 
+/* Gives the device of a session, which is the context, a request that has no call of its own. 0: it serves that. */
+int answer_other(void *context, uint32_t request, const uint8_t *bytes, size_t len, const int32_t *fds, size_t count);
+
 /* Whether a call that stops rings has to wait for requests of theirs. Nothing more is taken meanwhile. */
 bool has_to_wait(struct session *session, uint32_t call);
 

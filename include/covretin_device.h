@@ -111,7 +111,7 @@ typedef struct covretin_device_calls {
     uint64_t features;
 
     /* The same of protocol features: MQ, LOG_SHMFD, REPLY_ACK, PAGEFAULT, INFLIGHT_SHMFD, RESET_DEVICE, CONFIGURE_MEM_SLOTS and BACKEND_REQ
-     * are; CONFIG where there is `read_config`. Here is what `channel` wants, as BACKEND_SEND_FD. */
+     * are; CONFIG where there is `read_config`. Here is what `channel` wants, as BACKEND_SEND_FD, and what `other` serves, as RARP. */
     uint64_t protocol_features;
 
     uint32_t queues; /* 1 to COVRETIN_DEVICE_MAX_QUEUES */
@@ -173,9 +173,13 @@ typedef struct covretin_device_calls {
     /* Where is counted; it stays there as long as the table. NULL: nowhere. */
     covretin_device_stats *stats;
 
+    /* A request of the frontend that has no call of its own, as SEND_RARP: its number, its body, and its descriptors, which are lent. True: it is
+     * served, and acknowledged where it asks for that; else it is refused, as each is where this is NULL. */
+    bool (*other)(void *own, uint32_t request, const uint8_t *bytes, size_t len, const int32_t *fds, size_t count);
+
     /* 0: room for what later versions add, so that a table of today has none of it. One that has more than this version knows is
      * INVALID_PARAM. */
-    uint64_t later[16];
+    uint64_t later[15];
 } covretin_device_calls;
 
 /* -- A session -------------------------------------------------------------------------------------------------------- */

@@ -58,7 +58,10 @@ static struct {
     size_t kept_count, served, broken, resets, turned_away, ended;
     enum covretin_queue_error why_broken;
     enum covretin_error why_ended;
-    uint32_t last_queue;
+    uint32_t last_queue, other; /* of a request that has no call of its own: its number, */
+    size_t other_len;           /* its body, */
+    uint8_t other_first;
+    int other_copy; /* and a descriptor */
     bool again;
     uint64_t features;
     uint8_t config[8];
@@ -118,6 +121,18 @@ static bool on_config_changed(void *own)
 {
     (void)own;
     return atomic_exchange(&its.has_changed, false);
+}
+
+/* It serves requests of odd numbers, and keeps a descriptor that came. */
+static bool on_other(void *own, uint32_t request, const uint8_t *bytes, size_t len, const int32_t *fds, size_t count)
+{
+    EXPECT(true, own == &its);
+    its.other = request;
+    its.other_len = len;
+    its.other_first = len != 0 ? bytes[0] : 0;
+    if (count != 0)
+        its.other_copy = dup(fds[count - 1]);
+    return request % 2 != 0;
 }
 
 static void on_turned_away(void *own)
@@ -1893,6 +1908,64 @@ static void ends_by_what_no_reply_refuses(void)
     end_as(COVRETIN_BACKEND_INTERNAL_ERROR);
 }
 
+/* Sends a request that the frontend's library does not make, with a byte as its body and maybe a descriptor: what it is acknowledged by. */
+static uint64_t acknowledged(uint32_t request, int fd)
+{
+    struct {
+        uint32_t head[3];
+        uint8_t body;
+    } sent = {{request, 1 | 8, 1}, 77};
+    struct {
+        uint32_t head[3], low, high;
+    } came = {{0}, 0, 0};
+    union {
+        struct cmsghdr head;
+        char room[CMSG_SPACE(sizeof(int))];
+    } with = {.head = {CMSG_LEN(sizeof fd), SOL_SOCKET, SCM_RIGHTS}};
+    struct iovec whole = {&sent, 13};
+    struct msghdr message = {.msg_iov = &whole, .msg_iovlen = 1};
+    memcpy(CMSG_DATA(&with.head), &fd, sizeof fd);
+    if (fd >= 0)
+        message = (struct msghdr){.msg_iov = &whole, .msg_iovlen = 1, .msg_control = &with, .msg_controllen = sizeof with.room};
+    EXPECT(13, sendmsg(covretin_connection_fd(&vmm), &message, 0));
+    EXPECT(sizeof came, recv(covretin_connection_fd(&vmm), &came, sizeof came, MSG_WAITALL));
+    EXPECT(request, came.head[0]);
+    return came.low | (uint64_t)came.high << 32;
+}
+
+/* A request that has no call of its own is the device's, whole; where the device has nothing for those it is refused. */
+static void gives_other_requests(void)
+{
+    covretin_device_stats counted = {0};
+    covretin_device_calls others = calls;
+    others.other = on_other;
+    others.protocol_features = COVRETIN_PROTOCOL_RARP;
+    others.stats = &counted;
+    begin(&others);
+    negotiate(0);
+    EXPECT(COVRETIN_PROTOCOL_RARP, number(covretin_ask_get_protocol_features(&vmm.session)) & COVRETIN_PROTOCOL_RARP);
+    EXPECT(0, acknowledged(19, -1));
+    EXPECT(true, its.other == 19 && its.other_len == 1 && its.other_first == 77);
+    EXPECT(0, acknowledged(601, memory_fd = memfd_create("sent", MFD_CLOEXEC)));
+    EXPECT(601, its.other);
+    EXPECT(8, write(its.other_copy, "the same", 8));
+    EXPECT(8, lseek(memory_fd, 0, SEEK_CUR));
+    EXPECT(0, counted.refusals);
+    EXPECT(1, acknowledged(600, -1));
+    EXPECT(600, its.other);
+    EXPECT(1, counted.refusals);
+    EXPECT(3, number(covretin_ask_get_queue_num(&vmm.session)));
+    end();
+    close(its.other_copy);
+    close(memory_fd);
+    begin(&calls);
+    negotiate(0);
+    its.other = 0;
+    EXPECT(1, acknowledged(19, -1));
+    EXPECT(0, its.other);
+    end();
+}
+
 /* It serves one frontend after another, hangs up on one that comes meanwhile, and ends at a signal. */
 static void run_until_a_signal(void *(*how)(void *))
 {
@@ -2079,6 +2152,7 @@ int main(void)
     RUN(bears_anything_in_a_packed_queue);
     RUN(refuses_tables);
     RUN(ends_by_what_no_reply_refuses);
+    RUN(gives_other_requests);
     RUN(runs_until_a_signal);
     RUN(runs_with_a_listener_that_is_there);
     RUN(runs_with_one_frontend);

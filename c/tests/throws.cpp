@@ -15,7 +15,7 @@ namespace {
 
 struct Thrown {};
 
-enum Callback { ACCEPTED, READ_CONFIG, WRITE_CONFIG, RESET, REFUSED, REQUEST, BROKEN, ENDED, NONE };
+enum Callback { ACCEPTED, READ_CONFIG, WRITE_CONFIG, RESET, REFUSED, OTHER, REQUEST, BROKEN, ENDED, NONE };
 
 const uint64_t SIZE = 0x4000, USED = 0x1000, AVAILABLE = 0x2000, BUFFER = 0x3000;
 
@@ -68,6 +68,12 @@ void on_refused(void *, uint32_t, covretin_error)
     come(REFUSED);
 }
 
+bool on_other(void *, uint32_t, const uint8_t *, size_t, const int32_t *, size_t)
+{
+    come(OTHER);
+    return true;
+}
+
 void on_broken(void *, uint32_t, covretin_queue_error)
 {
     come(BROKEN);
@@ -88,6 +94,7 @@ covretin_device_calls table()
     calls.write_config = on_write_config;
     calls.reset = on_reset;
     calls.refused = on_refused;
+    calls.other = on_other;
     calls.broken = on_broken;
     calls.ended = on_ended;
     return calls;
@@ -154,6 +161,10 @@ void play()
     make(covretin_ask_set_features(&vmm.session, COVRETIN_FEATURE_PROTOCOL_FEATURES | COVRETIN_DEVICE_VERSION_1));
     EXPECT(COVRETIN_OK, make(covretin_ask_get_config(&vmm.session, 0, 4, 0)));
     make(covretin_ask_set_config(&vmm.session, 0, 0, bytes, sizeof bytes));
+    const uint32_t other[3] = {19, 1, 0};
+    if (write(covretin_connection_fd(&vmm), other, sizeof other) != sizeof other)
+        give_up("write");
+    serve();
     use_ring(false);
     make(covretin_ask_reset_device(&vmm.session));
     use_ring(true);
