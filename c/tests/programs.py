@@ -20,9 +20,10 @@ import sys
 import time
 
 from backend_schema import wrong_capabilities
-from disk_attacks import ACCEPTED, DATA, GET_FEATURES, GET_VRING_BASE, HEADER, NEED_REPLY, NEXT, REQUEST, SET_MEM_TABLE, VERSION, made_memory
+from disk_attacks import ACCEPTED, DATA, GET_FEATURES, GET_PROTOCOL_FEATURES, GET_VRING_BASE, HEADER, NEED_REPLY, NEXT, REQUEST, SET_MEM_TABLE, VERSION
 from disk_attacks import POSTCOPY_ADVISE, SECTOR, SECTORS, SET_VRING_ADDR, SET_VRING_BASE, SET_VRING_CALL, SET_VRING_ENABLE, SET_VRING_KICK
-from disk_attacks import SET_PROTOCOL_FEATURES, SET_VRING_NUM, SIZE, STATUS, USER, WRITE, WRITTEN, Disk, Frontend, Guest, check, made_event, working
+from disk_attacks import SET_PROTOCOL_FEATURES, SET_VRING_NUM, SIZE, STATUS, USER, WRITE, WRITTEN, Disk, Frontend, Guest, check, made_event, made_memory
+from disk_attacks import working
 
 FOLDER = os.path.abspath(sys.argv[1])
 DEVICES = ["covretin-blk", "covretin-rng", "covretin-net", "covretin-console"]
@@ -30,6 +31,7 @@ NEEDED = {"covretin-blk": ["--blk-file=file"], "covretin-net": ["--local=near", 
 READ_ONLY = 1 << 5
 GET_ID = 8
 GET_CONFIG = 24
+RARP = 1 << 2
 CONFIG = 1 << 9
 REM_MEM_REG = 38
 MOST_SLEEPS = 100  # of a millisecond each
@@ -507,6 +509,37 @@ def a_card_whose_other_end_is_gone_drops():
     again.ends_by(signal.SIGTERM)
 
 
+SEND_RARP = 19
+ADDRESS = bytes([0x52, 0x54, 0, 0, 0, 9])
+# What QEMU sends by itself for a guest behind a card of its own.
+PLACE = b"\xff" * 6 + ADDRESS + bytes.fromhex("8035 0001 0800 06 04 0003") + ADDRESS + bytes(4) + ADDRESS + bytes(4 + 18)
+
+
+def a_card_tells_where_its_guest_is():
+    one = Program("--local=one", "--remote=two", "--pcap=one.pcap", name="covretin-net", path="one.socket")
+    two = Program("--local=two", "--remote=one", name="covretin-net", path="two.socket")
+    guests = [CardGuest(one), CardGuest(two)]
+    it = guests[0].frontend
+    offered = struct.unpack("<Q", it.ask(GET_PROTOCOL_FEATURES))[0]
+    check(offered & RARP, "it offers to tell")
+    it.do(SET_PROTOCOL_FEATURES, struct.pack("<Q", ACCEPTED | RARP))
+    guests[1].has_room()
+    it.do(SEND_RARP, ADDRESS + bytes(2))
+    check(guests[1].gets() == PLACE == frames_of("one.pcap")[0], "its other end hears where the guest is")
+    guests[1].has_room()
+    it.send(SEND_RARP, ADDRESS + bytes(2))
+    check(guests[1].gets() == PLACE, "so it does where nobody waits for an acknowledgement, as of QEMU")
+    for wrong in (b"", ADDRESS, ADDRESS + bytes(10)):
+        check(it.acknowledged(SEND_RARP, wrong) is False, f"{len(wrong)} bytes are none of its requests")
+    check(it.acknowledged(SEND_RARP + 600, ADDRESS + bytes(2)) is False, "nor is another number")
+    check(len(frames_of("one.pcap")) == 2, "and nothing is sent for them")
+    guests[0].sends(frame_of(1))
+    for guest in guests:
+        guest.close()
+    for card in (one, two):
+        card.ends_by(signal.SIGTERM)
+
+
 def set_up(interface):
     """Turns an interface on."""
     with socket.socket(socket.AF_INET, socket.SOCK_DGRAM) as it:
@@ -812,7 +845,7 @@ TESTS += [a_message_that_is_none_is_status_1, ends_while_connected, ends_while_a
 TESTS += [refusals_say_why, a_broken_queue_says_its_rule, a_flood_of_refusals_is_cut_short, nobody_has_to_listen, counts_are_printed_at_a_signal]
 TESTS += [pipes_are_signalled_where_that_is_asked_for]
 TESTS += [read_only_writes_nothing, serial_is_what_was_given]
-TESTS += [two_cards_reach_each_other, a_card_whose_other_end_is_gone_drops, a_tap_is_the_other_end]
+TESTS += [two_cards_reach_each_other, a_card_whose_other_end_is_gone_drops, a_card_tells_where_its_guest_is, a_tap_is_the_other_end]
 TESTS += [a_console_is_a_socket, a_console_is_a_terminal, visitors_of_a_console_come_and_go, what_is_typed_at_a_console_waits_for_room]
 TESTS += [who_pauses_at_a_console_stops_no_guest]
 TESTS += [served_by_a_manager, readiness_without_a_socket_of_the_manager, several_sockets_of_a_manager_are_refused]

@@ -27,6 +27,7 @@
 
 enum { RECEIVE, TRANSMIT, QUEUES }; /* as the guest names them */
 enum { SHORTEST = 14, LONGEST = 65535, MOST_FRAMES = 64, MOST_BUFFERS = 16, ADDRESS_BYTES = 6 };
+enum { SEND_RARP = 19, TELLS_PLACE = 8, PLACE = 60 }; /* a request, its body and the frame that it asks for, in bytes */
 
 /* What the arguments say. */
 static const char *tap, *local, *remote, *recording;
@@ -78,20 +79,50 @@ static bool send_frame(const uint8_t *frame, size_t size)
     return sendto(wire, frame, size, MSG_DONTWAIT | MSG_NOSIGNAL, to, sizeof far_end) == (ssize_t)size;
 }
 
+static void hand_on(const uint8_t *frame, size_t size)
+{
+    note(frame, size);
+    if (send_frame(frame, size))
+        sent++;
+    else
+        dropped++;
+}
+
 /* (what may be zeros in the place of memory that was lost is no frame) */
 static void take_frame(void *none, covretin_request *request)
 {
     static uint8_t frame[LONGEST + 1];
     size_t before = covretin_request_read(request, NULL, header_size), size = covretin_request_read(request, frame, sizeof frame);
-    bool is_frame = before == header_size && size >= SHORTEST && size <= LONGEST && !covretin_request_is_lost(request);
     (void)none;
-    if (is_frame)
-        note(frame, size);
-    if (is_frame && send_frame(frame, size))
-        sent++;
+    if (before == header_size && size >= SHORTEST && size <= LONGEST && !covretin_request_is_lost(request))
+        hand_on(frame, size);
     else
         dropped++;
     covretin_request_done(request, 0);
+}
+
+/* Tells all who are behind the wire that a guest is here, which came from elsewhere and does not say so: by the frame that asks for the protocol
+ * address of its card (RFC 903), as QEMU makes it. A bridge learns by its sender where frames for the guest are to go. */
+static void tell_place(const uint8_t *of)
+{
+    static const uint8_t asks[] = {0x80, 0x35, 0, 1, 0x08, 0x00, ADDRESS_BYTES, 4, 0, 3}; /* RARP, of Ethernet and IPv4, a request */
+    uint8_t frame[PLACE] = {0};
+    memset(frame, 0xff, ADDRESS_BYTES);
+    memcpy(frame + 6, of, ADDRESS_BYTES);
+    memcpy(frame + 12, asks, sizeof asks);
+    memcpy(frame + 22, of, ADDRESS_BYTES);
+    memcpy(frame + 32, of, ADDRESS_BYTES);
+    hand_on(frame, sizeof frame);
+}
+
+static bool take_other(void *none, uint32_t request, const uint8_t *bytes, size_t len, const int32_t *fds, size_t count)
+{
+    (void)none;
+    (void)fds;
+    if (request != SEND_RARP || len != TELLS_PLACE || count != 0)
+        return false;
+    tell_place(bytes);
+    return true;
 }
 
 /* -- To the guest -- */
@@ -174,12 +205,14 @@ static void tell_end(void *none, enum covretin_error error)
 }
 
 static covretin_device_calls calls = {.features = (uint64_t)1 << VIRTIO_NET_F_MAC | (uint64_t)1 << VIRTIO_NET_F_STATUS,
+                                      .protocol_features = COVRETIN_PROTOCOL_RARP,
                                       .queues = QUEUES,
                                       .taken_queues = (uint64_t)1 << RECEIVE,
                                       .request = take_frame,
                                       .accepted = take_features,
                                       .read_config = read_config,
                                       .input_ready = frames_came,
+                                      .other = take_other,
                                       .ended = tell_end};
 
 /* -- Its other end -- */
