@@ -3,8 +3,8 @@
 
     machine.py TRY DISK BOOT [ANY [FRAMES]]    in an empty folder: DISK is the compiled c/blk.c, BOOT the sector of boot.S, ANY the compiled
                                                any.c; for display DISK is the compiled picture.c, for entropy ANY the compiled c/rng.c; for
-                                               frames ANY is the compiled c/net.c, and FRAMES the compiled frames.c; for ping ANY is the
-                                               program covretin-net
+                                               frames ANY is the compiled c/net.c, and FRAMES the compiled frames.c; for ping and
+                                               ping_migration ANY is the program covretin-net
 
 Prints what is done. Status 0 where all was as it has to be; 1 where something was not, which the last line says. What runs is ended
 by then. The machines' consoles and the disks' lines are kept in the folder.
@@ -19,6 +19,7 @@ import struct
 import subprocess
 import sys
 
+from bridge import Bridge, Pings
 from driver import Slot
 from emulator import DOES_LINES, Disk, Emulator, Shell, check, migrate, play, run, sent, tell, wait_for_end, wait_running, wait_until
 
@@ -424,25 +425,41 @@ def tried_frames(program):
     check(machine.do("/tmp/frames eth0") == "1024 frames came back", "the guest has back what it sent")
     machine.power_off()
     disk.end()
-    card.terminate()
-    wait_for_end(card, "the card")
+    end_cards([card])
     with open("net.said", encoding="utf-8") as it:
         found = re.fullmatch(r"a frontend went: peer disconnected; (\d+) frames were sent back, and (\d+) dropped\n", it.read())
     check(found and int(found[1]) >= 1024, "the card sent them back")
     tell(f"{found[1]} frames were sent back, {found[2]} dropped")
 
 
+def begin_card(name, number, *words):
+    """A card, which the words join to others, and the words by which a machine has it."""
+    path = f"{name}-card-{os.getpid()}.socket"
+    with open(f"{name}.card", "wb") as log:
+        card = run([ANY, f"--socket-path={path}", *words], log)
+    wait_until(lambda: os.path.exists(path), "the card listens", 10)
+    *netdev, device = DEVICES["net"][0]
+    return card, ("-chardev", f"socket,id=net,path={path}", *netdev, f"{device},mac=52:54:00:00:00:0{number}")
+
+
+def boot_at_card(name, disk, number, *words):
+    machine = boot(name, disk, *words)
+    machine.do("for it in failover net_failover virtio_net; do insmod /modules/$it.ko || exit 1; done")
+    machine.do(f"ip link set eth0 up && ip addr add 10.0.0.{number}/24 dev eth0")
+    return machine
+
+
 def machine_with_card(program, name, far, number):
     """A machine, its disk, and its card, whose other end is the card of the machine that is named."""
     disk = Disk(program, name)
-    path = f"{name}-card-{os.getpid()}.socket"
-    with open(f"{name}.card", "wb") as log:
-        card = run([ANY, f"--socket-path={path}", f"--local={name}.wire", f"--remote={far}.wire"], log)
-    wait_until(lambda: os.path.exists(path), "the card listens", 10)
-    machine = boot(name, disk, "-chardev", f"socket,id=net,path={path}", *DEVICES["net"][0])
-    machine.do("for it in failover net_failover virtio_net; do insmod /modules/$it.ko || exit 1; done")
-    machine.do(f"ip link set eth0 address 52:54:00:00:00:0{number} up && ip addr add 10.0.0.{number}/24 dev eth0")
-    return machine, disk, card
+    card, words = begin_card(name, number, f"--local={name}.wire", f"--remote={far}.wire")
+    return boot_at_card(name, disk, number, *words), disk, card
+
+
+def end_cards(cards):
+    for card in cards:
+        card.terminate()
+        wait_for_end(card, "the card")
 
 
 def tried_ping(program):
@@ -457,10 +474,82 @@ def tried_ping(program):
     for machine, disk, card in there:
         machine.power_off()
         disk.end()
-        card.terminate()
-        wait_for_end(card, "the card")
+        end_cards([card])
     with open("one.card", encoding="utf-8") as it:
         tell(it.read().strip())
+
+
+def machines_at_bridge(program):
+    """A machine that runs, one that it is to be migrated to, and one that pings it, with their disks and their cards, whose taps a bridge joins."""
+    try:
+        bridge = Bridge()
+    except OSError as why:
+        tell(f"there may be no bridge here: {why}")
+        raise SystemExit(4) from None
+    names = {"source": 1, "target": 1, "pinger": 2}
+    disks = {it: Disk(program, it) for it in names}
+    cards = {it: begin_card(it, names[it], f"--tap={it}", f"--pcap={it}.pcap") for it in names}
+    for it in names:
+        bridge.join(it)
+    source, pinger = (boot_at_card(it, disks[it], names[it], *cards[it][1]) for it in ("source", "pinger"))
+    target = Machine("target", disks["target"], "-incoming", "defer", *cards["target"][1])
+    return (source, target, pinger), disks.values(), [card for card, _ in cards.values()]
+
+
+def pings():
+    """What has passed at the card of the machine that pings."""
+    return Pings("pinger.pcap", "10.0.0.2", "10.0.0.1", bytes.fromhex("525400000001"))
+
+
+def wait_answered(count, when):
+    """Waits until so many more pings are answered."""
+    before = len(pings().answered)
+    wait_until(lambda: len(pings().answered) >= before + count, f"pings are answered {when}")
+
+
+def check_lost(heard):
+    """Pings were lost in a row alone: after those that had an answer before the last part of the migration, and before the place of the machine
+    was told."""
+    found = pings()
+    lost = found.lost()
+    tell(f"{len(lost)} of {len(found.asked)} pings were lost: {lost}")
+    check(found.told is not None, "the place of the machine was told")
+    check(all(number > heard for number in lost), "none was lost before the last part of the migration")
+    check(not set(lost) & set(found.asked[found.told :]), "none was lost after the place of the machine was told")
+    between = [number for number in found.asked if lost and lost[0] <= number <= lost[-1]]
+    check(lost == between, "those that were lost were sent in a row")
+
+
+def tried_ping_migration(program):
+    """A machine is migrated while another pings it, over a bridge: pings are lost only while it runs nowhere, for which it is paused; and its card
+    tells the bridge where it went."""
+    (source, target, pinger), disks, cards = machines_at_bridge(program)
+    pinger.do("ping 10.0.0.1 >/tmp/pings 2>&1 &")
+    wait_answered(3, "before the migration")
+    source.ask("migrate-set-capabilities", capabilities=[{"capability": "pause-before-switchover", "state": True}])
+    source.ask("migrate-set-parameters", **{"max-bandwidth": 1 << 16, "downtime-limit": 2000})
+    target.ask("migrate-incoming", uri="unix:migration")
+    is_over = migrate(source)
+    wait_answered(3, "during the migration")
+    heard = max(pings().answered)
+    check(source.ask("query-migrate")["status"] == "active", "the migration goes on meanwhile")
+    source.ask("migrate-set-parameters", **{"max-bandwidth": 1 << 30})
+    wait_until(lambda: source.ask("query-migrate")["status"] == "pre-switchover", "all was sent but what the machine is at last")
+    sent = len(pings().asked)
+    wait_until(lambda: len(pings().asked) >= sent + 3, "pings go on")
+    source.ask("migrate-continue", state="pre-switchover")
+    wait_until(is_over, "the migration is over")
+    wait_running(target)
+    wait_answered(5, "after the migration")
+    check("5 packets received, 0% packet loss" in target.do("ping -c 5 -W 60 10.0.0.2"), "the machine's own are answered there")
+    pinger.do("killall ping")
+    check_lost(heard)
+    for machine in (target, pinger):
+        machine.power_off()
+    source.quit()
+    for disk in disks:
+        disk.end()
+    end_cards(cards)
 
 
 def tried_resized(program):
