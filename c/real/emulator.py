@@ -4,6 +4,7 @@ import ctypes
 import json
 import os
 import re
+import select
 import signal
 import socket
 import subprocess
@@ -286,6 +287,50 @@ class Shell:
 
 
 # -- Migration --
+
+
+class Passage:
+    """What is between two machines as one is migrated to the other: it hands on as much as it is let, while the source waits."""
+
+    PIECE = 1 << 16
+
+    def __init__(self):
+        self.listener, self.source, self.target = socket.socket(socket.AF_UNIX), None, socket.socket(socket.AF_UNIX)
+        self.listener.bind("migration")
+        self.listener.listen(1)
+
+    def hand_on(self, most=1 << 20):
+        """Hands on what is there, but no more bytes than that. Whether that was the end."""
+        if self.source is None and select.select([self.listener], [], [], 0)[0]:
+            self.source = self.listener.accept()[0]
+            self.target.connect("arrival")
+        while most > 0 and self.source is not None and select.select([self.source], [], [], 0)[0]:
+            piece = self.source.recv(min(most, self.PIECE))
+            if not piece:
+                self.target.shutdown(socket.SHUT_WR)
+                return True
+            self.target.sendall(piece)
+            most -= len(piece)
+        return False
+
+    def wait_until(self, holds, what):
+        """Waits until something holds, and hands on meanwhile; nothing more once it does."""
+
+        def is_so():
+            if holds():
+                return True
+            self.hand_on()
+            return False
+
+        wait_until(is_so, what)
+
+    def finish(self):
+        """Hands on all that is left. QEMU's monitor answers nothing while it waits for that."""
+        wait_until(self.hand_on, "all is handed on")
+
+    def close(self):
+        for it in (self.listener, self.source, self.target):
+            it.close()
 
 
 def migrate(source):

@@ -21,7 +21,7 @@ import sys
 
 from bridge import Bridge, Pings
 from driver import Slot
-from emulator import DOES_LINES, Disk, Emulator, Shell, check, migrate, play, run, sent, tell, wait_for_end, wait_running, wait_until
+from emulator import DOES_LINES, Disk, Emulator, Passage, Shell, check, migrate, play, run, sent, tell, wait_for_end, wait_running, wait_until
 
 SECTOR = 512
 KERNEL_AT = 2048  # sectors
@@ -520,24 +520,37 @@ def check_lost(heard):
     check(lost == between, "those that were lost were sent in a row")
 
 
+def send_each_page(source, target):
+    """Begins a migration that pauses the machine at its end, and sends each page. It waits then, with pages to send that were written meanwhile,
+    however slow all is. By what it goes on, and what says whether it is over."""
+    passage = Passage()
+    source.ask("migrate-set-capabilities", capabilities=[{"capability": "pause-before-switchover", "state": True}])
+    source.ask("migrate-set-parameters", **{"max-bandwidth": 1 << 30, "downtime-limit": 1})
+    target.ask("migrate-incoming", uri="unix:arrival")
+    is_over = migrate(source)
+    for count in range(3):
+        passage.wait_until(lambda: sent(source, "dirty-sync-count") > count, f"all pages were looked through {count + 1} times")
+        source.do("yes | head -c 16777216 >/tmp/dirty")
+    return passage, is_over
+
+
 def tried_ping_migration(program):
     """A machine is migrated while another pings it, over a bridge: pings are lost only while it runs nowhere, for which it is paused; and its card
     tells the bridge where it went."""
     (source, target, pinger), disks, cards = machines_at_bridge(program)
-    pinger.do("ping 10.0.0.1 >/tmp/pings 2>&1 &")
+    # (it would ask for the address anew, and send nothing while nobody answers)
+    pinger.do("arp -s 10.0.0.1 52:54:00:00:00:01; ping 10.0.0.1 >/tmp/pings 2>&1 &")
     wait_answered(3, "before the migration")
-    source.ask("migrate-set-capabilities", capabilities=[{"capability": "pause-before-switchover", "state": True}])
-    source.ask("migrate-set-parameters", **{"max-bandwidth": 1 << 16, "downtime-limit": 2000})
-    target.ask("migrate-incoming", uri="unix:migration")
-    is_over = migrate(source)
+    passage, is_over = send_each_page(source, target)
     wait_answered(3, "during the migration")
     heard = max(pings().answered)
     check(source.ask("query-migrate")["status"] == "active", "the migration goes on meanwhile")
-    source.ask("migrate-set-parameters", **{"max-bandwidth": 1 << 30})
-    wait_until(lambda: source.ask("query-migrate")["status"] == "pre-switchover", "all was sent but what the machine is at last")
-    sent = len(pings().asked)
-    wait_until(lambda: len(pings().asked) >= sent + 3, "pings go on")
+    source.ask("migrate-set-parameters", **{"downtime-limit": 2000})
+    passage.wait_until(lambda: source.ask("query-migrate")["status"] == "pre-switchover", "all was sent but what the machine is at last")
+    before = len(pings().asked)
+    wait_until(lambda: len(pings().asked) >= before + 3, "pings go on")
     source.ask("migrate-continue", state="pre-switchover")
+    passage.finish()
     wait_until(is_over, "the migration is over")
     wait_running(target)
     wait_answered(5, "after the migration")
@@ -549,6 +562,7 @@ def tried_ping_migration(program):
     source.quit()
     for disk in disks:
         disk.end()
+    passage.close()
     end_cards(cards)
 
 
