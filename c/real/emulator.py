@@ -172,6 +172,15 @@ class Disk:
 # -- QEMU --
 
 
+def connects_again(seconds):
+    """What a socket's words end with by which QEMU connects again after so many seconds: from 9.2 on in milliseconds; 11 knows no other."""
+    if not seconds:
+        return ""
+    said = subprocess.run(["qemu-system-x86_64", "--version"], stdout=subprocess.PIPE, text=True, check=True).stdout
+    version = tuple(map(int, re.search(r"version (\d+)\.(\d+)", said).groups()))
+    return f",reconnect-ms={1000 * seconds}" if version >= (9, 2) else f",reconnect={seconds}"
+
+
 class Emulator:
     """QEMU, that is asked by its monitor."""
 

@@ -13,7 +13,7 @@ import signal
 import sys
 
 from driver import PAGE, READS, SECTOR, WRITES, Halted, Ring, Slot
-from emulator import RUNNING, Disk, check, migrate, play, run, sent, tell, wait_for_end, wait_running, wait_until
+from emulator import RUNNING, Disk, check, connects_again, migrate, play, run, sent, tell, wait_for_end, wait_running, wait_until
 
 MEGABYTE = 1 << 20
 IMAGE_SIZE = 4 * MEGABYTE
@@ -36,7 +36,7 @@ def in_image(sector, length):
 
 
 def machine_over(name, disk, *words, reconnect=0):
-    words += ("-chardev", f"socket,id=disk,path={disk.path},reconnect={reconnect}")
+    words += ("-chardev", f"socket,id=disk,path={disk.path}{connects_again(reconnect)}")
     words += ("-device", "vhost-user-blk-pci,chardev=disk,num-queues=2,addr=5")
     return Halted(name, MEMORY, *words)
 

@@ -21,7 +21,7 @@ import sys
 
 from bridge import Bridge, Pings
 from driver import Slot
-from emulator import DOES_LINES, Disk, Emulator, Passage, Shell, check, migrate, play, run, sent, tell, wait_for_end, wait_running, wait_until
+from emulator import DOES_LINES, Disk, Emulator, Passage, Shell, check, connects_again, migrate, play, run, sent, tell, wait_for_end, wait_running, wait_until
 
 SECTOR = 512
 KERNEL_AT = 2048  # sectors
@@ -119,7 +119,7 @@ class Machine(Guest):
     """One that boots from a disk."""
 
     def __init__(self, name, disk, *words, reconnect=0, memory="256M", rings="num-queues=2"):
-        words += ("-chardev", f"socket,id=disk,path={disk.path},reconnect={reconnect}")
+        words += ("-chardev", f"socket,id=disk,path={disk.path}{connects_again(reconnect)}")
         words += ("-device", f"vhost-user-blk-pci,chardev=disk,{rings},bootindex=1")
         super().__init__(name, memory, *words)
 
