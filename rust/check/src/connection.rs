@@ -1,6 +1,5 @@
 // SPDX-License-Identifier: Apache-2.0
 //! A connection to a backend, over which right and wrong requests are sent.
-use std::cell::RefCell;
 use std::fmt;
 use std::fs::File;
 use std::io;
@@ -11,14 +10,15 @@ use std::time::Duration;
 
 use crate::patience::{settle, Patience};
 use crate::system::{is_readable, is_writable, memory_file, peer_of, receive, send, Mapping};
+use crate::trace::{Bytes, Piece, Trace, Way};
 use crate::wire::*;
 
 /// The greatest body of a reply that is read.
 const MOST_BYTES: u32 = 1 << 16;
-/// How many bytes of a message are shown.
-const SHOWN_BYTES: usize = 80;
 /// How long is waited in one go, in milliseconds.
 const STEP: i32 = 20;
+/// How a stream ends that does not fail.
+const END: &str = "the end of its stream";
 
 /// Why a case ended before its last step.
 #[derive(Debug)]
@@ -52,9 +52,6 @@ impl fmt::Display for Stop {
         }
     }
 }
-
-/// What went over the connections of a case, a line a message.
-pub type Trace = Rc<RefCell<Vec<String>>>;
 
 /// A reply.
 #[derive(Debug)]
@@ -129,11 +126,19 @@ impl Default for Terms {
     }
 }
 
+/// What has come of a message.
+#[derive(Default)]
+struct Came {
+    pieces: Vec<Piece>,
+    descriptors: Vec<OwnedFd>,
+}
+
 pub struct Connection {
     pub socket: UnixStream,
     pub process: Option<i32>,
     pub limit: Duration,
     trace: Trace,
+    session: u64,
     /// The virtio features that were offered, and those that were accepted.
     pub offered: u64,
     pub accepted: u64,
@@ -145,30 +150,40 @@ pub struct Connection {
 
 impl Connection {
     pub fn new(socket: UnixStream, limit: Duration, trace: Trace) -> Self {
-        let process = peer_of(&socket);
-        Connection { socket, process, limit, trace, offered: 0, accepted: 0, protocol_offered: 0, protocol: 0, memory: None }
-    }
-
-    fn note(&self, way: char, bytes: &[u8], descriptors: usize) {
-        let shown = hex_of(&bytes[..bytes.len().min(SHOWN_BYTES)]);
-        let more = if bytes.len() > SHOWN_BYTES { ".." } else { "" };
-        let with = if descriptors > 0 { format!(" +{descriptors} fd") } else { String::new() };
-        self.trace.borrow_mut().push(format!("{way} {shown}{more}{with}"));
+        let (process, session) = (peer_of(&socket), trace.connect());
+        let (offered, accepted, protocol_offered, protocol) = (0, 0, 0, 0);
+        Connection { socket, process, limit, trace, session, offered, accepted, protocol_offered, protocol, memory: None }
     }
 
     /// Sends bytes as they are.
     pub fn raw(&mut self, bytes: &[u8], descriptors: &[RawFd]) -> Result<(), Stop> {
-        self.note('>', bytes, descriptors.len());
-        self.raw_unseen(bytes, descriptors)
+        self.send_all(bytes, descriptors, true)
     }
 
-    /// The same without a line in the trace.
+    /// The same without a line in a report.
     pub fn raw_unseen(&mut self, bytes: &[u8], descriptors: &[RawFd]) -> Result<(), Stop> {
+        self.send_all(bytes, descriptors, false)
+    }
+
+    fn send_all(&mut self, bytes: &[u8], descriptors: &[RawFd], is_shown: bool) -> Result<(), Stop> {
+        let mut pieces = Vec::new();
+        let sent = self.put(bytes, descriptors, &mut pieces);
+        self.trace.note(self.session, Bytes { way: Way::ToBackend, is_sent: true, is_shown, pieces });
+        if let Err(Stop::HungUp(why)) = &sent {
+            self.trace.end(self.session, Way::ToBackend, Some(why.clone()));
+        }
+        sent
+    }
+
+    fn put(&self, bytes: &[u8], descriptors: &[RawFd], pieces: &mut Vec<Piece>) -> Result<(), Stop> {
         let mut patience = Patience::new(self.process, self.limit);
         let (mut rest, mut with) = (bytes, descriptors);
         while !rest.is_empty() {
             match send(&self.socket, rest, with) {
-                Ok(count) => (rest, with) = (&rest[count..], &[]),
+                Ok(count) => {
+                    pieces.push(Piece::sent(&rest[..count], with));
+                    (rest, with) = (&rest[count..], &[]);
+                }
                 Err(cause) if cause.kind() == io::ErrorKind::WouldBlock => self.wait_to_send(&mut patience)?,
                 Err(cause) if cause.kind() == io::ErrorKind::Interrupted => {}
                 Err(cause) => return Err(Stop::HungUp(cause.to_string())),
@@ -195,14 +210,18 @@ impl Connection {
         self.raw(&joined(&[&head, body]), descriptors)
     }
 
-    fn take(&mut self, count: usize, descriptors: &mut Vec<OwnedFd>, limit: Duration) -> Result<Vec<u8>, Stop> {
+    fn take(&self, count: usize, came: &mut Came, limit: Duration) -> Result<Vec<u8>, Stop> {
         let mut patience = Patience::new(self.process, limit);
         let mut bytes = vec![0; count];
         let mut at = 0;
         while at < count {
-            match receive(&self.socket, &mut bytes[at..], descriptors) {
-                Ok(0) => return Err(Stop::HungUp("the end of its stream".to_string())),
-                Ok(more) => at += more,
+            let before = came.descriptors.len();
+            match receive(&self.socket, &mut bytes[at..], &mut came.descriptors) {
+                Ok(0) => return Err(Stop::HungUp(END.to_string())),
+                Ok(more) => {
+                    came.pieces.push(Piece::received(&bytes[at..at + more], &came.descriptors[before..]));
+                    at += more;
+                }
                 Err(cause) if cause.kind() == io::ErrorKind::WouldBlock => {
                     let came = is_readable(&self.socket, STEP) || patience.spend(Duration::from_millis(STEP as u64));
                     if !came {
@@ -218,23 +237,33 @@ impl Connection {
 
     /// The next message, which is a reply.
     pub fn reply(&mut self) -> Result<Reply, Stop> {
-        let reply = self.reply_unseen(self.limit)?;
-        let head = header(reply.code, reply.flags, reply.body.len() as u32);
-        self.note('<', &joined(&[&head, &reply.body]), reply.descriptors.len());
-        Ok(reply)
+        self.receive_reply(self.limit, true)
     }
 
-    /// The same without a line in the trace, and with a limit of its own.
+    /// The same without a line in a report, and with a limit of its own.
     pub fn reply_unseen(&mut self, limit: Duration) -> Result<Reply, Stop> {
-        let mut descriptors = Vec::new();
-        let head = self.take(12, &mut descriptors, limit)?;
+        self.receive_reply(limit, false)
+    }
+
+    fn receive_reply(&mut self, limit: Duration, is_shown: bool) -> Result<Reply, Stop> {
+        let mut came = Came::default();
+        let read = self.read_reply(&mut came, limit);
+        let Came { pieces, descriptors } = came;
+        self.trace.note(self.session, Bytes { way: Way::ToFrontend, is_sent: false, is_shown, pieces });
+        if let Err(Stop::HungUp(why)) = &read {
+            self.trace.end(self.session, Way::ToFrontend, Some(why.clone()).filter(|it| it != END));
+        }
+        read.map(|reply| Reply { descriptors, ..reply })
+    }
+
+    fn read_reply(&self, came: &mut Came, limit: Duration) -> Result<Reply, Stop> {
+        let head = self.take(12, came, limit)?;
         let [code, flags, size] = [0, 4, 8].map(|at| u32_at(&head, at));
         if size > MOST_BYTES || flags & 3 != VERSION || flags >> 4 != 0 {
-            self.note('<', &head, descriptors.len());
             return Err(Stop::Odd(format!("no header of a reply: {}", hex_of(&head))));
         }
-        let body = self.take(size as usize, &mut descriptors, limit)?;
-        Ok(Reply { code, flags, body, descriptors })
+        let body = self.take(size as usize, came, limit)?;
+        Ok(Reply { code, flags, body, descriptors: Vec::new() })
     }
 
     /// Sends a request that is always replied to: all that came before its reply.
@@ -331,5 +360,11 @@ impl Connection {
     /// Whether the connection can still be used.
     pub fn is_usable(&mut self) -> Result<bool, Stop> {
         Ok(self.number(Request::GET_FEATURES)? == self.offered)
+    }
+}
+
+impl Drop for Connection {
+    fn drop(&mut self) {
+        self.trace.end(self.session, Way::ToBackend, None);
     }
 }

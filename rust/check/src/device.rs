@@ -2,7 +2,8 @@
 //! Which requests a kind of device takes.
 use std::fmt;
 
-use crate::ring::{Ring, NEXT, WRITE};
+use crate::connection::Memory;
+use crate::ring::{Buffer, Ring, WRITE};
 use crate::wire::{joined, u32s, u64s};
 
 /// Where the buffers of a request lie.
@@ -69,16 +70,30 @@ impl Kind {
         matches!(self, Kind::Block | Kind::Entropy)
     }
 
+    /// Writes what a request consists of that the device carries out: its buffers.
+    pub fn request(self, memory: &Memory) -> Vec<Buffer> {
+        match self {
+            Kind::Block => block_request(memory, 0, 0, false),
+            Kind::Console => read_once(memory, b"covretin check\n"),
+            Kind::Entropy => vec![Buffer::new(BUFFERS, 16, WRITE)],
+            Kind::Files => files_request(memory),
+            Kind::Graphics => graphics_request(memory),
+            Kind::Net => read_once(memory, &frame()),
+            Kind::Vsock => read_once(memory, &reset()),
+        }
+    }
+
     /// Writes a request that the device carries out, from the first descriptor on.
     pub fn write_request(self, ring: &Ring) {
+        ring.describe_chain(0, &self.request(&ring.memory));
+    }
+
+    /// Whether such a request has left its effect in memory, where that shows one.
+    pub fn has_effect(self, memory: &Memory) -> bool {
         match self {
-            Kind::Block => write_block(ring, 0, false),
-            Kind::Console => write_once(ring, b"covretin check\n"),
-            Kind::Entropy => ring.describe(0, BUFFERS, 16, WRITE, 0),
-            Kind::Files => write_files(ring),
-            Kind::Graphics => write_graphics(ring),
-            Kind::Net => write_once(ring, &frame()),
-            Kind::Vsock => write_once(ring, &reset()),
+            Kind::Block => memory.map.read(STATUS, 1) == [0],
+            Kind::Entropy => memory.map.read(BUFFERS, 16) != [0; 16],
+            _ => true,
         }
     }
 
@@ -94,54 +109,58 @@ impl Kind {
 }
 
 /// A request of one buffer that the device reads.
-fn write_once(ring: &Ring, bytes: &[u8]) {
-    ring.write(BUFFERS, bytes);
-    ring.describe(0, BUFFERS, bytes.len() as u32, 0, 0);
+fn read_once(memory: &Memory, bytes: &[u8]) -> Vec<Buffer> {
+    memory.map.write(BUFFERS, bytes);
+    vec![Buffer::new(BUFFERS, bytes.len() as u32, 0)]
 }
 
-/// A request of a disk: descriptors from this number on, buffers at so many pages behind the first.
-fn write_block(ring: &Ring, first: u16, is_write: bool) {
-    let at = if first == 0 { 0 } else { 0x4000 };
-    let sector = if is_write || first != 0 { SECTOR_NUMBER } else { 0 };
-    ring.write(BUFFERS + at, &joined(&[&u32s(&[is_write.into(), 0]), &u64s(&[sector])]));
-    ring.describe(first, BUFFERS + at, 16, NEXT, first + 1);
-    let flags = if is_write { NEXT } else { NEXT | WRITE };
-    ring.describe(first + 1, DATA + at, SECTOR as u32, flags, first + 2);
-    ring.describe(first + 2, STATUS + at, 1, WRITE, 0);
+/// A request of a disk, whose buffers lie so far behind the first.
+fn block_request(memory: &Memory, at: u64, sector: u64, is_write: bool) -> Vec<Buffer> {
+    memory.map.write(BUFFERS + at, &joined(&[&u32s(&[is_write.into(), 0]), &u64s(&[sector])]));
+    let flags = if is_write { 0 } else { WRITE };
+    vec![Buffer::new(BUFFERS + at, 16, 0), Buffer::new(DATA + at, SECTOR as u32, flags), Buffer::new(STATUS + at, 1, WRITE)]
 }
 
 /// A sector to be written, whose bytes nothing has had before.
 pub fn write_sector(ring: &Ring, bytes: &[u8]) {
-    write_block(ring, 0, true);
-    ring.write(DATA, bytes);
+    ring.describe_chain(0, &sector_request(&ring.memory, bytes));
+}
+
+/// The buffers of such a write.
+pub fn sector_request(memory: &Memory, bytes: &[u8]) -> Vec<Buffer> {
+    memory.map.write(DATA, bytes);
+    block_request(memory, 0, SECTOR_NUMBER, true)
 }
 
 /// The head of a request that reads this sector.
 pub const READ_HEAD: u16 = 8;
 
 pub fn read_sector(ring: &Ring) {
-    write_block(ring, READ_HEAD, false);
+    ring.describe_chain(READ_HEAD, &reading_request(&ring.memory));
+}
+
+/// The buffers of such a read.
+pub fn reading_request(memory: &Memory) -> Vec<Buffer> {
+    block_request(memory, 0x4000, SECTOR_NUMBER, false)
 }
 
 /// What was read so.
-pub fn sector_read(ring: &Ring) -> Vec<u8> {
-    ring.memory.map.read(DATA + 0x4000, SECTOR)
+pub fn sector_read(memory: &Memory) -> Vec<u8> {
+    memory.map.read(DATA + 0x4000, SECTOR)
 }
 
 /// FUSE_INIT of version 7.31.
-fn write_files(ring: &Ring) {
+fn files_request(memory: &Memory) -> Vec<Buffer> {
     let head = joined(&[&u32s(&[56, 26]), &u64s(&[2, 0]), &u32s(&[0; 4])]);
-    ring.write(BUFFERS, &joined(&[&head, &u32s(&[7, 31, 65536, 0])]));
-    ring.describe(0, BUFFERS, 56, NEXT, 1);
-    ring.describe(1, DATA, 256, WRITE, 0);
+    memory.map.write(BUFFERS, &joined(&[&head, &u32s(&[7, 31, 65536, 0])]));
+    vec![Buffer::new(BUFFERS, 56, 0), Buffer::new(DATA, 256, WRITE)]
 }
 
 /// A resource of 64 by 64 pixels is made.
-fn write_graphics(ring: &Ring) {
+fn graphics_request(memory: &Memory) -> Vec<Buffer> {
     let head = joined(&[&u32s(&[0x0101, 0]), &u64s(&[0]), &u32s(&[0, 0])]);
-    ring.write(BUFFERS, &joined(&[&head, &u32s(&[1, 1, 64, 64])]));
-    ring.describe(0, BUFFERS, 40, NEXT, 1);
-    ring.describe(1, DATA, 24, WRITE, 0);
+    memory.map.write(BUFFERS, &joined(&[&head, &u32s(&[1, 1, 64, 64])]));
+    vec![Buffer::new(BUFFERS, 40, 0), Buffer::new(DATA, 24, WRITE)]
 }
 
 /// A frame to everybody, behind the header of a frame.

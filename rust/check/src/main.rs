@@ -7,6 +7,7 @@ mod frontend;
 #[path = "../../src/tap/markup.rs"]
 mod markup;
 mod options;
+mod packed;
 mod patience;
 mod report;
 mod ring;
@@ -14,6 +15,7 @@ mod run;
 mod system;
 mod table;
 mod target;
+mod trace;
 mod wire;
 
 use std::collections::HashMap;
@@ -192,7 +194,18 @@ fn write_reports(options: &Options, name: &str, outcomes: &[Outcome]) -> Result<
     };
     write(&options.junit, &|| report::junit_of(name, outcomes, options.strict))?;
     write(&options.json, &|| report::json_of(outcomes))?;
-    write(&options.html, &|| report::page_of(name, outcomes, options.strict))
+    write(&options.html, &|| report::page_of(name, outcomes, options.strict))?;
+    options.record.as_ref().map_or(Ok(()), |folder| write_recordings(folder, outcomes))
+}
+
+/// Writes a recording of each case that was tried and did not pass.
+fn write_recordings(folder: &Path, outcomes: &[Outcome]) -> Result<(), Failure> {
+    fs::create_dir_all(folder).map_err(|cause| Failure(FAILED, format!("{}: {cause}", folder.display())))?;
+    for outcome in outcomes.iter().filter(|it| !it.trace.is_empty()) {
+        let file = folder.join(format!("{}.jsonl", outcome.row.id));
+        write_file(&file, &trace::recording_of(&outcome.trace))?;
+    }
+    Ok(())
 }
 
 fn write_file(path: &Path, text: &str) -> Result<(), Failure> {

@@ -23,6 +23,7 @@ the socket's path in the place of %s. A line is a case: its number, its verdict,
   --strict        a SHOULD is a fault as well
   --expect=FILE   known verdicts, a case and its verdict a line: they are no faults, so that a run fails by new ones
   --junit=FILE    the report for a test runner; --json=FILE for other programs; --html=FILE as a page
+  --record=DIR    a recording of each case that did not pass, DIR/ID.jsonl, which covretin-tap --replay shows
   --image=FILE    the file of a disk, to see in it what was written
   --limit=SECONDS how long nothing may happen before a reply is missing (2)
   --as-root       runs as root as well
@@ -53,9 +54,31 @@ pub struct Options {
     pub junit: Option<PathBuf>,
     pub json: Option<PathBuf>,
     pub html: Option<PathBuf>,
+    pub record: Option<PathBuf>,
     pub image: Option<PathBuf>,
     pub limit: Duration,
     pub as_root: bool,
+}
+
+impl Options {
+    /// Those of a call that names none.
+    fn none() -> Self {
+        Options {
+            subject: Subject::Program(Vec::new()),
+            is_frontend: false,
+            kind: None,
+            only: Vec::new(),
+            strict: false,
+            expect: None,
+            junit: None,
+            json: None,
+            html: None,
+            record: None,
+            image: None,
+            limit: Duration::from_secs(2),
+            as_root: false,
+        }
+    }
 }
 
 #[derive(Debug)]
@@ -70,20 +93,7 @@ pub enum Asked {
 /// The words behind the program's name; or what is wrong with them.
 pub fn parse(words: impl IntoIterator<Item = OsString>) -> Result<Asked, String> {
     let mut words = words.into_iter();
-    let mut options = Options {
-        subject: Subject::Program(Vec::new()),
-        is_frontend: false,
-        kind: None,
-        only: Vec::new(),
-        strict: false,
-        expect: None,
-        junit: None,
-        json: None,
-        html: None,
-        image: None,
-        limit: Duration::from_secs(2),
-        as_root: false,
-    };
+    let mut options = Options::none();
     let mut paths = Vec::new();
     while let Some(word) = words.next() {
         let text = word.to_string_lossy().into_owned();
@@ -130,6 +140,7 @@ fn set(options: &mut Options, option: &str) -> Result<(), String> {
         "--junit" => options.junit = Some(file(value)?),
         "--json" => options.json = Some(file(value)?),
         "--html" => options.html = Some(file(value)?),
+        "--record" => options.record = Some(file(value)?),
         "--image" => options.image = Some(file(value)?),
         "--limit" => {
             let seconds = value.and_then(|it| it.parse().ok()).filter(|it| (0.01..1e6).contains(it));

@@ -5,6 +5,7 @@ use std::fmt::Write;
 use crate::markup::escaped;
 use crate::run::{Outcome, Verdict, VERDICTS};
 use crate::table::Row;
+use crate::trace::lines_of;
 
 /// The line of a case.
 pub fn line_of(outcome: &Outcome) -> String {
@@ -69,7 +70,10 @@ fn inner_of(outcome: &Outcome, strict: bool) -> String {
         Verdict::Trouble => format!("<error message=\"{message}\"/>"),
         Verdict::Pass => String::new(),
         verdict if outcome.fails(strict) => {
-            format!("<failure type=\"{verdict}\" message=\"{message}\">{}</failure>", escaped(&outcome.trace.join(" / ")))
+            format!(
+                "<failure type=\"{verdict}\" message=\"{message}\">{}</failure>",
+                escaped(&lines_of(&outcome.trace).join(" / "))
+            )
         }
         verdict => format!("<system-out>{verdict}: {message}</system-out>"),
     }
@@ -99,7 +103,7 @@ pub fn json_of(outcomes: &[Outcome]) -> String {
 
 fn object_of(outcome: &Outcome) -> String {
     let row = outcome.row;
-    let trace: Vec<String> = outcome.trace.iter().map(|it| quoted(it)).collect();
+    let trace: Vec<String> = lines_of(&outcome.trace).iter().map(|it| quoted(it)).collect();
     let fields = [
         ("id", quoted(row.id)),
         ("verdict", quoted(&outcome.verdict.to_string())),
@@ -150,7 +154,7 @@ pub fn page_of(name: &str, outcomes: &[Outcome], strict: bool) -> String {
 fn row_of_page(outcome: &Outcome) -> String {
     let row = outcome.row;
     let [provoked, expected, sentence, seen] = [row.provoked, row.expected, row.sentence, &outcome.seen].map(escaped);
-    let trace: Vec<String> = outcome.trace.iter().map(|it| escaped(it)).collect();
+    let trace: Vec<String> = lines_of(&outcome.trace).iter().map(|it| escaped(it)).collect();
     let bytes = if trace.is_empty() { String::new() } else { format!("<pre>{}</pre>", trace.join("\n")) };
     format!(
         "<tr id=\"{id}\"><td>{id}<td class=\"{verdict}\">{verdict}<td><details><summary>{expected}</summary>\

@@ -24,6 +24,20 @@ pub fn descriptor(address: u64, length: u32, flags: u16, next: u16) -> Vec<u8> {
     joined(&[&address.to_le_bytes(), &length.to_le_bytes(), &flags.to_le_bytes(), &next.to_le_bytes()])
 }
 
+/// A buffer of a request: WRITE in its flags says that the device writes it.
+#[derive(Clone, Copy)]
+pub struct Buffer {
+    pub address: u64,
+    pub length: u32,
+    pub flags: u16,
+}
+
+impl Buffer {
+    pub fn new(address: u64, length: u32, flags: u16) -> Self {
+        Buffer { address, length, flags }
+    }
+}
+
 pub struct Ring {
     pub index: u32,
     pub memory: Rc<Memory>,
@@ -64,7 +78,12 @@ impl Ring {
     /// Says from which index on the backend goes on; the driver does so, too.
     pub fn say_base(&mut self, connection: &mut Connection, base: u16) -> Result<(), Stop> {
         self.next = base;
-        connection.send(Request::SET_VRING_BASE, &u32s(&[self.index, base.into()]), &[])
+        self.say_whole_base(connection, base.into())
+    }
+
+    /// The same for both indices of a packed ring.
+    pub fn say_whole_base(&self, connection: &mut Connection, base: u32) -> Result<(), Stop> {
+        connection.send(Request::SET_VRING_BASE, &u32s(&[self.index, base]), &[])
     }
 
     pub fn say_addresses(&self, connection: &mut Connection) -> Result<(), Stop> {
@@ -96,6 +115,11 @@ impl Ring {
     pub fn prepare(&mut self, connection: &mut Connection, base: u16) -> Result<(), Stop> {
         self.say_size(connection)?;
         self.say_base(connection, base)?;
+        self.say_places(connection)
+    }
+
+    /// Where it lies, and how it signals.
+    pub fn say_places(&self, connection: &mut Connection) -> Result<(), Stop> {
         self.say_addresses(connection)?;
         self.give(connection, Request::SET_VRING_ERR, self.error.as_raw_fd())?;
         self.give_call(connection)
@@ -112,6 +136,14 @@ impl Ring {
 
     pub fn describe(&self, number: u16, address: u64, length: u32, flags: u16, next: u16) {
         self.write(self.descriptors + 16 * u64::from(number), &descriptor(address, length, flags, next));
+    }
+
+    /// A chain of these buffers, in descriptors from this number on.
+    pub fn describe_chain(&self, first: u16, buffers: &[Buffer]) {
+        for (number, (at, buffer)) in (first..).zip(buffers.iter().enumerate()) {
+            let (next, following) = if at + 1 < buffers.len() { (NEXT, number + 1) } else { (0, 0) };
+            self.describe(number, buffer.address, buffer.length, buffer.flags | next, following);
+        }
     }
 
     /// Makes the chain at a head available, and the index greater by so much.

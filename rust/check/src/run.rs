@@ -8,6 +8,7 @@ use crate::cases::{Case, Play, Seen};
 use crate::connection::Stop;
 use crate::table::{Level, Row};
 use crate::target::{Health, Target};
+use crate::trace::Went;
 
 /// How often a case has to fail before it is called so.
 const TRIES: u32 = 3;
@@ -85,7 +86,7 @@ pub struct Outcome {
     pub verdict: Verdict,
     pub seen: String,
     /// What was sent and received, where it did not pass.
-    pub trace: Vec<String>,
+    pub trace: Vec<Went>,
     pub seconds: f64,
     /// Whether --expect has just this verdict.
     pub is_expected: bool,
@@ -122,9 +123,9 @@ pub fn expectations(text: &str) -> Result<HashMap<String, Verdict>, String> {
 fn play(target: &mut Target, case: Play) -> Result<Seen, Stop> {
     let mut left = RESETS;
     loop {
-        target.trace.borrow_mut().clear();
+        target.trace.clear();
         let outcome = case(target);
-        let nothing_came = !target.trace.borrow().iter().any(|it| it.starts_with('<'));
+        let nothing_came = !target.trace.has_received();
         left -= 1;
         match outcome {
             Err(Stop::HungUp(_)) if nothing_came && left > 0 => target.rest(),
@@ -160,7 +161,7 @@ pub fn run(target: &mut Target, row: &'static Row, case: &Case) -> Outcome {
     let mut outcome = Outcome::new(row, Verdict::Trouble, String::new());
     for turn in 1..=TRIES {
         let played = play(target, case.1);
-        let trace = target.trace.borrow().clone();
+        let trace = target.trace.all();
         let health = target.health();
         let (verdict, seen) = judge(row, target.persists, played, health);
         if turn > 1 && verdict == Verdict::Pass {

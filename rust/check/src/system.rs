@@ -14,6 +14,10 @@ const DESCRIPTOR_SIZE: usize = std::mem::size_of::<RawFd>();
 /// UFFDIO_API, and the only version of it.
 const UFFDIO_API: libc::c_ulong = 0xc018_aa3f;
 const UFFD_API: u64 = 0xaa;
+/// UFFDIO_COPY, and which event says that a page is missing.
+const UFFDIO_COPY: libc::c_ulong = 0xc028_aa03;
+const PAGE_FAULT: u8 = 0x12;
+const PAGE: u64 = 4096;
 
 /// What a call returned, or why it failed.
 fn checked(returned: libc::c_int) -> io::Result<libc::c_int> {
@@ -221,11 +225,37 @@ pub fn in_own_group(command: &mut Command) -> &mut Command {
     }
 }
 
+/// Has a program that is started from now on keep a descriptor.
+pub fn inherit(descriptor: &impl AsRawFd) -> io::Result<()> {
+    // SAFETY: no memory is given.
+    checked(unsafe { libc::fcntl(descriptor.as_raw_fd(), libc::F_SETFD, 0) }).map(drop)
+}
+
 /// Enables a userfaultfd, where its maker has not.
 pub fn enable_userfault(descriptor: &impl AsRawFd) {
     let mut api = [UFFD_API, 0, 0];
     // SAFETY: the record has three numbers.
     unsafe { libc::ioctl(descriptor.as_raw_fd(), UFFDIO_API as _, api.as_mut_ptr()) };
+}
+
+/// The address of a page fault that waits, which is taken off a userfaultfd.
+pub fn next_fault(descriptor: &impl AsRawFd) -> Option<u64> {
+    let mut event = [0u64; 4];
+    let size = std::mem::size_of_val(&event);
+    // SAFETY: there is room for an event; a userfaultfd that waits is told not to.
+    let got = unsafe {
+        libc::fcntl(descriptor.as_raw_fd(), libc::F_SETFL, libc::O_NONBLOCK);
+        libc::read(descriptor.as_raw_fd(), event.as_mut_ptr().cast(), size)
+    };
+    (got == size as isize && event[0] as u8 == PAGE_FAULT).then_some(event[2])
+}
+
+/// Gives a page of zeros to who waits for it.
+pub fn give_page(descriptor: &impl AsRawFd, address: u64) {
+    let zeros = [0u8; PAGE as usize];
+    let mut copy = [address & !(PAGE - 1), zeros.as_ptr() as u64, PAGE, 0, 0];
+    // SAFETY: the record has five numbers; a page of bytes is there to be read.
+    unsafe { libc::ioctl(descriptor.as_raw_fd(), UFFDIO_COPY as _, copy.as_mut_ptr()) };
 }
 
 /// Whether the checker runs as root.

@@ -12,11 +12,12 @@ use std::process::{Child, Command, ExitStatus, Stdio};
 use std::thread::sleep;
 use std::time::Duration;
 
-use crate::connection::{Connection, Stop, Terms, Trace};
+use crate::connection::{Connection, Stop, Terms};
 use crate::device::Kind;
 use crate::patience::{family, is_alive, settle, Patience};
 use crate::ring::Ring;
 use crate::system::{in_own_group, send_signal};
+use crate::trace::Trace;
 use crate::wire::{u64s, Feature, Request};
 
 /// How long a program may take to listen, and to end.
@@ -95,7 +96,7 @@ impl Target {
         fs::create_dir_all(&folder)?;
         // (a backend may have the rights of another user)
         fs::set_permissions(&folder, fs::Permissions::from_mode(0o755))?;
-        let trace = Trace::default();
+        let trace = Trace::new();
         Ok(Target {
             place,
             kind,
@@ -397,6 +398,15 @@ impl Target {
         let status = self.status();
         self.stop();
         Ok(status)
+    }
+
+    /// Kills the program: it has no time for anything, and that is no fault of it.
+    pub fn kill(&mut self) {
+        if let Some(mut child) = self.child.take() {
+            send_signal(-(child.id() as i32), libc::SIGKILL);
+            let _ = child.wait();
+        }
+        self.process = None;
     }
 
     /// Ends the program.

@@ -9,6 +9,7 @@ pub const REPLY: u32 = 4;
 pub const NEED_REPLY: u32 = 8;
 /// Bits of the virtio features.
 pub const LOG_ALL: u64 = 1 << 26;
+pub const INDIRECT_TABLES: u64 = 1 << 28;
 pub const EVENT_IDX: u64 = 1 << 29;
 pub const PROTOCOL_FEATURES: u64 = 1 << 30;
 pub const VERSION_1: u64 = 1 << 32;

@@ -7,7 +7,7 @@ use std::process::{Child, Command, Output, Stdio};
 
 /// The cases that are tried with each fault.
 const CASES: &str = "HDR-01,HDR-04,NEG-03,NEG-04,NEG-10,UNK-03,ACK-05,ACK-06,ACK-08,ACK-17,MEM-01,MEM-20,MEM-26,MEM-30,RNG-01,RNG-02,RNG-04,RNG-05,\
-                     RNG-06,RNG-07,RNG-08,RNG-20,RNG-51,CFG-01,CFG-07,LOG-05,INF-01,PCP-02,PCP-07,RST-03,RST-04,SUS-01,CON-06,PRG-01";
+                     RNG-06,RNG-07,RNG-08,RNG-20,RNG-51,CFG-01,CFG-07,LOG-05,INF-01,INF-09,INF-10,PCP-02,PCP-07,PCP-08,PCP-09,PCP-10,PCP-11,RST-03,RST-04,SUS-01,CON-06,PRG-01,PRG-03,PKD";
 
 fn checker() -> Command {
     let mut command = Command::new(env!("CARGO_BIN_EXE_covretin-check"));
@@ -22,7 +22,11 @@ fn device() -> String {
 /// Runs the checker over the device with a fault.
 fn run(options: &[&str], fault: &str) -> Output {
     let device = device();
-    checker().args(options).args(["--type=rng", "--limit=0.7", "--", "python3", &device, "%s", fault]).output().expect("it runs")
+    checker()
+        .args(options)
+        .args(["--type=rng", "--limit=0.7", "--", "python3", &device, "--socket-path=%s", fault])
+        .output()
+        .expect("it runs")
 }
 
 /// The cases that a run says have failed, each with its verdict; a NOTE is no failure.
@@ -63,16 +67,16 @@ faults! {
     acknowledged_unasked: "an acknowledgement that nobody wants" => ["ACK-17b MUST"];
     not_acknowledged: "no acknowledgement" => ["ACK-08a MUST"];
     reply_of_another: "a reply of another request" => ["MEM-20 MUST"];
-    disabled_is_served: "a disabled ring is served" => ["RNG-04 MUST", "RNG-51 MUST"];
+    disabled_is_served: "a disabled ring is served" => ["RNG-04 MUST", "RNG-51 MUST", "PKD-11 MUST"];
     descriptor_is_kept: "a descriptor is kept" => ["MEM-26 MUST"];
-    addresses_of_the_frontend: "the frontend's addresses" => ["PCP-02 MUST", "PCP-07 MUST"];
-    stopped_is_served: "a stopped ring is served" => ["RNG-08 MUST", "SUS-01 MUST"];
-    base_is_not_counted: "the base is not counted" => ["RNG-07 MUST"];
+    addresses_of_the_frontend: "the frontend's addresses" => ["PCP-02 MUST", "PCP-07 MUST", "PCP-08 MUST"];
+    stopped_is_served: "a stopped ring is served" => ["RNG-08 MUST", "SUS-01 MUST", "PKD-13 MUST"];
+    base_is_not_counted: "the base is not counted" => ["RNG-07 MUST", "PKD-01 MUST", "PKD-02 MUST", "PKD-12 MUST"];
     no_call: "the call is not signalled" => ["RNG-02 MUST"];
     pages_are_not_marked: "pages are not marked" => ["LOG-05 SHOULD"];
     configuration_of_another_size: "a configuration of another size" => ["CFG-01 MUST"];
     read_only_is_written: "a read-only field is written" => ["CFG-07 SHOULD"];
-    file_is_too_short: "a file that is too short" => ["INF-01 MUST"];
+    file_is_too_short: "a file that is too short" => ["INF-01 MUST", "INF-09 SHOULD", "PKD-04 SHOULD"];
     status_is_forgotten: "the status is forgotten" => ["RST-04 MUST"];
     reset_leaves_rings: "a reset leaves the rings" => ["RST-03 MUST"];
     crash: "a ring that is not there crashes" => ["RNG-20 CRASH"];
@@ -83,6 +87,21 @@ faults! {
     ring_without_bit_30: "a ring without bit 30 stays disabled" => ["RNG-05 MUST"];
     body_in_parts: "a body in parts is refused" => ["HDR-04 SHOULD"];
     does_not_end: "it does not end" => ["PRG-01 SHOULD"];
+    packed_base_of_one_index: "a packed base of one index" => ["PKD-01 MUST", "PKD-02 MUST", "PKD-12 MUST"];
+    wrap_counter_stays: "the wrap counter stays" => ["PKD-02 MUST", "PKD-05 MUST", "PKD-12 MUST"];
+    packed_id_is_the_place: "a packed id is the place" => ["PKD-06 SHOULD"];
+    table_is_a_buffer: "a table is a buffer" => ["PKD-07 SHOULD"];
+    unwanted_calls: "calls that are not wanted" => ["PKD-08 SHOULD"];
+    wrap_bits_are_not_looked_at: "wrap bits are not looked at" => ["PKD-09 MUST"];
+    packed_chain_is_endless: "a packed chain may be endless" => ["PKD-03 HANG"];
+    wrong_table_crashes: "a wrong table crashes" => ["PKD-10 CRASH"];
+    memory_is_not_registered: "memory is not registered" => ["PCP-08 MUST"];
+    faults_after_the_end: "faults after the end" => ["PCP-09 HANG"];
+    touched_too_early: "memory is touched before the acknowledgement" => ["PCP-02 HANG", "PCP-10 MUST"];
+    what_was_under_way_is_forgotten: "what was under way is forgotten" => ["PKD-04 SHOULD"];
+    under_way_in_a_split_ring: "what was under way in a split ring is forgotten" => ["INF-09 SHOULD", "INF-10 SHOULD"];
+    used_again: "what was used is used again" => ["INF-10 SHOULD"];
+    socket_of_fd_is_not_served: "a socket of --fd is not served" => ["PRG-03 SHOULD"];
     enabled_is_forgotten: "what was enabled is forgotten" => ["RNG-05 MUST", "RNG-06 MUST"];
 }
 
@@ -128,7 +147,12 @@ impl Drop for Listening {
 fn a_socket_is_checked() {
     let folder = folder("socket");
     let path = folder.join("socket");
-    let device = Command::new("python3").arg(device()).arg(&path).stdin(Stdio::null()).spawn().expect("it starts");
+    let device = Command::new("python3")
+        .arg(device())
+        .arg(format!("--socket-path={}", path.display()))
+        .stdin(Stdio::null())
+        .spawn()
+        .expect("it starts");
     let device = Listening(device);
     while !path.exists() {
         std::thread::yield_now();

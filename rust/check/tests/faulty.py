@@ -1,10 +1,11 @@
 #!/usr/bin/env python3
 # SPDX-License-Identifier: Apache-2.0
-"""A source of entropy that keeps the protocol, but for one fault: faulty.py SOCKET [FAULT]
+"""A source of entropy that keeps the protocol, but for one fault: faulty.py --socket-path=SOCKET [FAULT], or --fd=NUMBER of a connected one
 
 Each FAULT is a word below, where it is planted. Without one the checker finds nothing in it.
 """
 import ctypes
+import fcntl
 import mmap
 import os
 import select
@@ -12,6 +13,7 @@ import signal
 import socket
 import struct
 import sys
+import time
 
 NAMES = """GET_FEATURES SET_FEATURES SET_OWNER RESET_OWNER SET_MEM_TABLE SET_LOG_BASE SET_LOG_FD SET_VRING_NUM SET_VRING_ADDR SET_VRING_BASE
 GET_VRING_BASE SET_VRING_KICK SET_VRING_CALL SET_VRING_ERR GET_PROTOCOL_FEATURES SET_PROTOCOL_FEATURES GET_QUEUE_NUM SET_VRING_ENABLE SEND_RARP
@@ -19,15 +21,19 @@ NET_SET_MTU SET_BACKEND_REQ_FD IOTLB_MSG SET_VRING_ENDIAN GET_CONFIG SET_CONFIG 
 POSTCOPY_LISTEN POSTCOPY_END GET_INFLIGHT_FD SET_INFLIGHT_FD GPU_SET_SOCKET RESET_DEVICE VRING_KICK GET_MAX_MEM_SLOTS ADD_MEM_REG REM_MEM_REG
 SET_STATUS GET_STATUS""".split()
 LOG_ALL, PROTOCOL_FEATURES = 1 << 26, 1 << 30
-FEATURES = LOG_ALL | PROTOCOL_FEATURES | 1 << 32
+INDIRECT_TABLES, PACKED = 1 << 28, 1 << 34
+FEATURES = LOG_ALL | PROTOCOL_FEATURES | INDIRECT_TABLES | 1 << 32 | PACKED
 REPLY_ACK, PAGEFAULT = 1 << 3, 1 << 8
 # MQ, LOG_SHMFD, REPLY_ACK, BACKEND_REQ, PAGEFAULT, CONFIG, INFLIGHT_SHMFD, RESET_DEVICE, CONFIGURE_MEM_SLOTS, STATUS
 PROTOCOL = sum(1 << bit for bit in (0, 1, 3, 5, 8, 9, 12, 13, 15, 16))
 NEED_REPLY, REPLY, VERSION = 8, 4, 1
-NEXT, WRITE = 1, 2
+NEXT, WRITE, INDIRECT = 1, 2, 4
+AVAILABLE, USED = 1 << 7, 1 << 15
 PAGE = 4096
 SLOTS = 32
 SPACE = 16
+UFFDIO_API, UFFDIO_REGISTER, UFFDIO_UNREGISTER = 0xc018aa3f, 0xc020aa00, 0x8010aa01
+BUFFERS = 0x20000
 USERFAULTFD = {"x86_64": 323, "aarch64": 282}[os.uname().machine]
 FAULT = sys.argv[2] if len(sys.argv) > 2 else ""
 
@@ -69,6 +75,15 @@ class Ring:
         self.size, self.base, self.used, self.places, self.log = 0, 0, 0, None, None
         self.kick = self.call = self.error = None
         self.enabled = self.started = self.broken = False
+        self.taken = 0
+        self.wrap, self.used_wrap, self.inflight, self.region = 1, 1, None, None
+
+    def go_on(self, count, forgets=False):
+        """In a packed ring: so many descriptors further, and over its end."""
+        self.base += count
+        if self.base >= self.size:
+            self.base -= self.size
+            self.wrap ^= 0 if forgets else 1
 
     def close(self):
         close([it for it in (self.kick, self.call, self.error) if it is not None])
@@ -136,9 +151,12 @@ class Session:
 
     def answer(self, code, name, flags, reply, given, result):
         if reply is not None:
+            early = FAULT == "memory is touched before the acknowledgement" and name == "SET_MEM_TABLE"
             if FAULT == "a reply is too short" and name == "GET_QUEUE_NUM":
                 reply = reply[:4]
             self.send(1 if FAULT == "a reply of another request" and name == "GET_MAX_MEM_SLOTS" else code, reply, given)
+            if early:
+                struct.unpack("<H", self.regions[0].map[BUFFERS:BUFFERS + 2])
             return
         wanted = flags & NEED_REPLY and self.protocol & REPLY_ACK and not (FAULT == "no acknowledgement" and name == "SET_VRING_ERR")
         if wanted or FAULT == "an acknowledgement that nobody wants" and name == "RESET_DEVICE":
@@ -206,6 +224,8 @@ class Session:
         for region in self.regions if at == 8 else self.regions[-1:]:
             if FAULT != "the frontend's addresses":
                 out[at + 16:at + 24] = struct.pack("<Q", region.place())
+            if FAULT != "memory is not registered":
+                fcntl.ioctl(self.userfault, UFFDIO_REGISTER, struct.pack("<QQQQ", region.place(), region.size, 1, 0))
             at += 32
         return bytes(out)
 
@@ -244,6 +264,9 @@ class Session:
     def set_vring_base(self, body, _descriptors):
         ring, base = self.ring(body)
         ring.base = ring.used = base & 0xffff
+        if self.features & PACKED:
+            ring.base, ring.wrap = base & 0x7fff, base >> 15 & 1
+            ring.used, ring.used_wrap = base >> 16 & 0x7fff, base >> 31
 
     def set_vring_addr(self, body, _descriptors):
         index, flags, table, used, available, log = struct.unpack("<IIQQQQ", body)
@@ -255,7 +278,11 @@ class Session:
         ring, _ = self.ring(body)
         if FAULT != "a stopped ring is served":
             ring.started = False
-        return struct.pack("<II", 0, 0 if FAULT == "the base is not counted" else ring.base)
+        base = 0 if FAULT == "the base is not counted" else ring.base
+        if self.features & PACKED:
+            base |= ring.wrap << 15
+            base |= 0 if FAULT == "a packed base of one index" else base << 16
+        return struct.pack("<II", 0, base)
 
     def event(self, body, descriptors):
         (value,) = struct.unpack("<Q", body)
@@ -270,7 +297,65 @@ class Session:
         ring.kick, ring.started, ring.broken = kept, True, False
         if FAULT == "what was enabled is forgotten":
             ring.enabled = False
+        if self.features & PACKED and ring.inflight and FAULT != "what was under way is forgotten":
+            self.resubmit(ring)
+        if not self.features & PACKED and ring.region is not None and ring.places:
+            self.take_up(ring)
         self.process(ring)
+
+    def take_up(self, ring):
+        """Carries out what the region of a split ring says is under way, in the order of its counters."""
+        (table, at), _, (used, last) = ring.places
+        (ring.used,) = struct.unpack("<H", used[last + 2:last + 4])
+        batch, seen = struct.unpack("<HH", ring.region[12:16])
+        if seen != ring.used and batch < ring.size and FAULT != "what was used is used again":
+            ring.region[16 + 16 * batch] = 0
+        ring.region[14:16] = struct.pack("<H", ring.used)
+        entries = [(ring.region[16 + 16 * it], struct.unpack("<Q", ring.region[24 + 16 * it:32 + 16 * it])[0], it) for it in range(ring.size)]
+        heads = [head for under_way, _, head in sorted(entries, key=lambda it: it[1]) if under_way]
+        ring.base = ring.used + len(heads) & 0xffff
+        if FAULT == "what was under way in a split ring is forgotten":
+            return
+        for head in heads:
+            self.finish(ring, head)
+
+    def finish(self, ring, head):
+        """Carries out a request of a split ring, and says so."""
+        (table, at), _, (used, last) = ring.places
+        filled = self.fill(table, at, ring.size, head)
+        slot = last + 4 + 8 * (ring.used % ring.size)
+        used[slot:slot + 8] = struct.pack("<II", head, filled)
+        ring.used = ring.used + 1 & 0xffff
+        if ring.region is not None:
+            ring.region[12:14] = struct.pack("<H", head)
+        used[last + 2:last + 4] = struct.pack("<H", ring.used)
+        if ring.log is not None:
+            self.mark(ring.log + 4 + 8 * (ring.used % ring.size))
+            self.mark(ring.log + 2)
+        if FAULT == "what was used is used again":
+            time.sleep(0.02)
+        if ring.region is not None:
+            ring.region[16 + 16 * head] = 0
+            ring.region[14:16] = struct.pack("<H", ring.used)
+        if ring.call is not None and FAULT != "the call is not signalled":
+            os.eventfd_write(ring.call, 1)
+
+    def resubmit(self, ring):
+        """Carries out what the region of a packed ring says is under way, in the order of its counters."""
+        (table, at), _, _ = ring.places
+        part, ring.inflight = ring.inflight, None
+        entries = [struct.unpack("<BxHHHQHHIQ", part[32 + 32 * it:64 + 32 * it]) for it in range(ring.size)]
+        for head in sorted((it for it in entries if it[0]), key=lambda it: it[4]):
+            entry, filled = head, 0
+            for _ in range(head[3]):
+                filled += self.fill_buffer(entry[8], entry[7], entry[6])
+                entry = entries[entry[1] % ring.size]
+            self.write_used(table, at + 16 * ring.used, filled, head[5], ring.used_wrap)
+            ring.used += head[3]
+
+    def write_used(self, table, slot, filled, number, wrap):
+        table[slot:slot + 14] = struct.pack("<QIH", 0, filled, number)
+        table[slot + 14:slot + 16] = struct.pack("<H", AVAILABLE | USED if wrap else 0)
 
     def set_vring_call(self, body, descriptors):
         ring, kept = self.event(body, descriptors)
@@ -308,29 +393,84 @@ class Session:
         if not (ring.started and enabled and ring.places and ring.size) or ring.broken:
             return
         try:
-            self.carry_out(ring)
+            if self.features & PACKED:
+                self.carry_out_packed(ring)
+            else:
+                self.carry_out(ring)
         except (Refused, struct.error, ValueError):
             ring.broken = True
             if ring.error is not None:
                 os.eventfd_write(ring.error, 1)
 
     def carry_out(self, ring):
-        (table, at), (available, first), (used, last) = ring.places
+        _, (available, first), _ = ring.places
         (index,) = struct.unpack("<H", available[first + 2:first + 4])
         need((index - ring.base) % 65536 <= ring.size)
         while ring.base != index:
             slot = first + 4 + 2 * (ring.base % ring.size)
             (head,) = struct.unpack("<H", available[slot:slot + 2])
-            filled = self.fill(table, at, ring.size, head)
-            slot = last + 4 + 8 * (ring.used % ring.size)
-            used[slot:slot + 8] = struct.pack("<II", head, filled)
-            ring.base, ring.used = ring.base + 1 & 0xffff, ring.used + 1 & 0xffff
-            used[last + 2:last + 4] = struct.pack("<H", ring.used)
-            if ring.log is not None:
-                self.mark(ring.log + 4 + 8 * (ring.used % ring.size))
-                self.mark(ring.log + 2)
-            if ring.call is not None and FAULT != "the call is not signalled":
+            if ring.region is not None and head < ring.size:
+                ring.taken += 1
+                ring.region[24 + 16 * head:32 + 16 * head] = struct.pack("<Q", ring.taken)
+                ring.region[16 + 16 * head] = 1
+            if FAULT == "what was under way in a split ring is forgotten":
+                time.sleep(0.02)
+            ring.base = ring.base + 1 & 0xffff
+            self.finish(ring, head)
+
+    def carry_out_packed(self, ring):
+        (table, at), (driver, event), _ = ring.places
+        while True:
+            slot = at + 16 * ring.base
+            (flags,) = struct.unpack("<H", table[slot + 14:slot + 16])
+            available, used = bool(flags & AVAILABLE), bool(flags & USED)
+            if available == used or available != bool(ring.wrap) and FAULT != "wrap bits are not looked at":
+                return
+            filled, count, number = self.fill_packed(ring, table, at)
+            need(number < ring.size)
+            number = ring.base if FAULT == "a packed id is the place" else number
+            self.write_used(table, slot, filled, number, ring.wrap)
+            ring.go_on(count, FAULT == "the wrap counter stays")
+            (wanted,) = struct.unpack("<H", driver[event + 2:event + 4])
+            if ring.call is not None and (wanted != 1 or FAULT == "calls that are not wanted"):
                 os.eventfd_write(ring.call, 1)
+
+    def fill_packed(self, ring, table, at):
+        """How many bytes it has filled, of how many descriptors, and the id of the last."""
+        filled, count = 0, 0
+        while count < ring.size or FAULT == "a packed chain may be endless":
+            place = at + 16 * ((ring.base + count) % ring.size)
+            address, length, number, flags = struct.unpack("<QIHH", table[place:place + 16])
+            count += 1
+            if flags & INDIRECT and FAULT != "a table is a buffer":
+                need(not flags & NEXT)
+                filled += self.fill_table(address, length)
+            else:
+                filled += self.fill_buffer(address, length, flags | (WRITE if flags & INDIRECT else 0))
+            if not flags & NEXT:
+                return filled, count, number
+        raise Refused
+
+    def fill_table(self, address, length):
+        if length % 16 and FAULT == "a wrong table crashes":
+            os.kill(os.getpid(), signal.SIGSEGV)
+        need(length and not length % 16 and length <= 16 * SLOTS)
+        table, at = self.of_guest(address, length)
+        filled = 0
+        for place in range(at, at + length, 16):
+            address, length, _, flags = struct.unpack("<QIHH", table[place:place + 16])
+            need(not flags & INDIRECT)
+            filled += self.fill_buffer(address, length, flags)
+        return filled
+
+    def fill_buffer(self, address, length, flags):
+        need(length)
+        if not flags & WRITE:
+            return 0
+        place, offset = self.of_guest(address, length)
+        place[offset:offset + length] = os.urandom(length)
+        self.mark(address, length)
+        return length
 
     def fill(self, table, at, size, head):
         filled = 0
@@ -406,22 +546,29 @@ class Session:
     def get_inflight_fd(self, body, _descriptors):
         _, _, queues, size = struct.unpack("<QQHH4x", body)
         need(queues == 1 and size)
-        length = 16 + 16 * size
+        length = self.part_size(size)
         file = os.memfd_create("inflight")
         os.ftruncate(file, PAGE if FAULT == "a file that is too short" else length + PAGE)
         if FAULT == "a file that is too short":
             length = 2 * PAGE
         return struct.pack("<QQHH4x", length, 0, queues, size), [file]
 
+    def part_size(self, size):
+        return 32 + 32 * size if self.features & PACKED else 16 + 16 * size
+
     def set_inflight_fd(self, body, descriptors):
         length, offset, queues, size = struct.unpack("<QQHH4x", body)
-        need(len(descriptors) == 1 and queues == 1 and length >= 16 + 16 * size)
+        need(len(descriptors) == 1 and queues == 1 and length >= self.part_size(size))
         need(offset + length <= os.fstat(descriptors[0]).st_size)
+        self.rings[0].inflight = os.pread(descriptors[0], length, offset)
+        if not offset % PAGE:
+            self.rings[0].region = mmap.mmap(descriptors[0], length, offset=offset)
 
     def postcopy_advise(self, _body, _descriptors):
         need(self.userfault is None)
         self.userfault = userfault()
         need(self.userfault >= 0)
+        fcntl.ioctl(self.userfault, UFFDIO_API, struct.pack("<QQQ", 0xaa, 0, 0))
         return b"", [os.dup(self.userfault)]
 
     def postcopy_listen(self, _body, _descriptors):
@@ -431,6 +578,9 @@ class Session:
     def postcopy_end(self, _body, _descriptors):
         need(self.listening)
         self.listening = False
+        if FAULT not in ("faults after the end", "memory is not registered"):
+            for it in self.regions:
+                fcntl.ioctl(self.userfault, UFFDIO_UNREGISTER, struct.pack("<QQ", it.place(), it.size))
         return struct.pack("<Q", 0)
 
     # Its run.
@@ -468,21 +618,31 @@ CONFIGURATION = bytearray(range(SPACE))
 KEPT = []
 
 
+def serve(connection):
+    session = Session(connection)
+    try:
+        session.run()
+    except (Gone, OSError):
+        pass
+    session.close()
+
+
 def main():
     if FAULT == "it does not end":
         signal.signal(signal.SIGTERM, signal.SIG_IGN)
     else:
         signal.signal(signal.SIGTERM, signal.SIG_DFL)
+    option, _, value = sys.argv[1].partition("=")
+    if option == "--fd" and FAULT == "a socket of --fd is not served":
+        return
+    if option == "--fd":
+        serve(socket.socket(fileno=int(value)))
+        return
     listener = socket.socket(socket.AF_UNIX)
-    listener.bind(sys.argv[1])
+    listener.bind(value)
     listener.listen(8)
     while True:
-        session = Session(listener.accept()[0])
-        try:
-            session.run()
-        except (Gone, OSError):
-            pass
-        session.close()
+        serve(listener.accept()[0])
 
 
 main()

@@ -57,15 +57,21 @@ impl Gathering {
     /// Takes in what was received. What was held back before is passed on first where descriptors came along, so that they stay
     /// with their bytes.
     pub(super) fn take_in(&mut self, bytes: &[u8], fds: Vec<PeerFd>) -> Received {
+        let kinds = fds.iter().map(kind_of).collect();
+        self.fds.extend(fds);
+        self.note(bytes, kinds)
+    }
+
+    /// Notes what was received, and what its descriptors are.
+    pub(super) fn note(&mut self, bytes: &[u8], kinds: Vec<String>) -> Received {
         let at = self.message.bytes.len();
-        if !fds.is_empty() {
+        if !kinds.is_empty() {
             self.message.fds_at.push(at);
-            self.message.body_fds += if at == 0 { 0 } else { fds.len() };
-            self.message.fds.extend(fds.iter().map(kind_of));
+            self.message.body_fds += if at == 0 { 0 } else { kinds.len() };
+            self.message.fds.extend(kinds);
         }
         self.message.cuts.push(bytes.len());
         self.message.bytes.extend_from_slice(bytes);
-        self.fds.extend(fds);
         if self.is_lost {
             return Received::Bytes;
         }
@@ -118,8 +124,8 @@ impl Gathering {
     }
 }
 
-/// What a descriptor is.
-fn kind_of(fd: &PeerFd) -> String {
+/// What a descriptor is, as a recording names it.
+pub fn kind_of(fd: &impl AsRawFd) -> String {
     let link = match read_link(format!("/proc/self/fd/{}", fd.as_raw_fd())) {
         Ok(link) => link.to_string_lossy().into_owned(),
         Err(_) => return "unknown".to_string(),
@@ -169,8 +175,8 @@ mod tests {
     #[test]
     fn kinds_of_descriptors() {
         let (socket, _other) = std::os::unix::net::UnixStream::pair().unwrap();
-        assert_eq!("socket", kind_of(&OwnedFd::from(socket).into()));
+        assert_eq!("socket", kind_of(&socket));
         let file = std::fs::File::open("/dev/null").unwrap();
-        assert_eq!("file:/dev/null", kind_of(&OwnedFd::from(file).into()));
+        assert_eq!("file:/dev/null", kind_of(&file));
     }
 }

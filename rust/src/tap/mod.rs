@@ -18,6 +18,7 @@ mod page;
 mod page_row;
 mod passing;
 mod pcapng;
+mod recorder;
 mod recording;
 mod refused;
 mod replies;
@@ -37,9 +38,11 @@ use std::process::ExitCode;
 use std::thread;
 use std::time::{Duration, SystemTime};
 
+pub use gathering::kind_of;
 use options::{Asked, Options, Source};
 use packets::Packets;
 use page::Page;
+pub use recorder::Recorder;
 use reporter::{Next, Notes, Reporter};
 use watcher::{Verdict, Watcher};
 

@@ -1,8 +1,10 @@
 // SPDX-License-Identifier: Apache-2.0
 //! Inflight regions.
+use super::packed_rings::unprepared;
 use super::*;
 use crate::connection::Memory;
-use crate::ring::{Ring, RING_SIZE};
+use crate::packed::{PackedRing, Place};
+use crate::ring::{Buffer, Ring, RING_SIZE};
 use crate::system::Mapping;
 use crate::target::Setup;
 
@@ -18,10 +20,11 @@ pub(super) const CASES: &[Case] = &[
     ("INF-09", unfinished_is_done_again),
     ("INF-11", wrong_records),
     ("INF-12", new_region_is_zero),
+    ("PKD-04", unfinished_packed_is_done_again),
 ];
 
 /// A region that the backend has given.
-struct Given {
+pub(super) struct Given {
     reply: Reply,
     size: u64,
     offset: u64,
@@ -39,20 +42,20 @@ impl Given {
     }
 
     /// The body by which it is given back.
-    fn body(&self, queues: u16) -> Vec<u8> {
+    pub(super) fn body(&self, queues: u16) -> Vec<u8> {
         joined(&[&u64s(&[self.size, self.offset]), &inflight(queues, RING_SIZE, 0)[16..]])
     }
 
-    fn file(&self) -> Vec<i32> {
+    pub(super) fn file(&self) -> Vec<i32> {
         self.reply.descriptors.iter().map(AsRawFd::as_raw_fd).collect()
     }
 }
 
-fn queues_of(t: &Target) -> u16 {
+pub(super) fn queues_of(t: &Target) -> u16 {
     t.kind.map_or(1, |it| it.rings() as u16)
 }
 
-fn ask_for_region(c: &mut Connection, queues: u16) -> Result<Given, Stop> {
+pub(super) fn ask_for_region(c: &mut Connection, queues: u16) -> Result<Given, Stop> {
     let reply = c.call(Request::GET_INFLIGHT_FD, &inflight(queues, RING_SIZE, 0), &[])?;
     let (size, offset) = (u64_at(&reply.body, 0), u64_at(&reply.body, 8));
     Ok(Given { reply, size, offset })
@@ -156,4 +159,49 @@ fn new_region_is_zero(t: &mut Target) -> Outcome {
     let second = ask_for_region(&mut c, queues_of(t))?;
     let head = second.map()?.read(second.offset, 16);
     seen(head == [0; 16], hex_of(&head))
+}
+
+/// The id of the request that was under way.
+const ID: u16 = 5;
+/// How many bytes the head of a packed ring's part has, and each of its entries.
+const PACKED_UNIT: u64 = 32;
+
+/// The part of a packed ring whose first request is under way: it has the first descriptors, and the others are free.
+fn packed_part(ring: &PackedRing, request: &[Buffer]) -> Vec<u8> {
+    let count = request.len() as u16;
+    let head = [1, RING_SIZE, count, count, 0, 0].map(u16::to_le_bytes).concat();
+    let mut part = joined(&[&u64s(&[0]), &head, &[1, 1], &[0; 10]]);
+    for entry in 0..RING_SIZE {
+        let is_head = entry == 0;
+        let numbers = [u16::from(is_head), entry + 1, if is_head { count - 1 } else { 0 }, if is_head { count } else { 0 }];
+        let buffer = request.get(usize::from(entry)).copied().unwrap_or(Buffer::new(0, 0, 0));
+        let (id, flags) = if entry < count { (ID, ring.flags(entry)) } else { (0, 0) };
+        part.extend(numbers.map(u16::to_le_bytes).concat());
+        part.extend(u64s(&[is_head.into()]));
+        part.extend([id, flags].map(u16::to_le_bytes).concat());
+        part.extend(joined(&[&u32s(&[buffer.length]), &u64s(&[buffer.address])]));
+    }
+    part
+}
+
+/// A packed ring, as a backend left it that was killed in the middle of its first request.
+fn unfinished_packed_is_done_again(t: &mut Target) -> Outcome {
+    let mut device = unprepared(t, Place::FIRST)?;
+    device.c.want(Feature::INFLIGHT_SHMFD)?;
+    let given = ask_for_region(&mut device.c, queues_of(t))?;
+    let request = device.request();
+    let head = device.driven().make_available(&request, ID);
+    let part = packed_part(device.driven(), &request);
+    let size = given.size / u64::from(queues_of(t));
+    if size < PACKED_UNIT * (1 + u64::from(RING_SIZE)) {
+        return Err(Stop::Odd(format!("{size} bytes of a region for a ring of {RING_SIZE}")));
+    }
+    given.map()?.write(given.offset + u64::from(device.driven().ring.index) * size, &part);
+    device.c.send(Request::SET_INFLIGHT_FD, &given.body(queues_of(t)), &given.file())?;
+    device.start(t, head, true)?;
+    device.driven().ring.signal();
+    let done = device.is_done(head);
+    let id = device.driven().id(head.index);
+    let next = device.works(ID + 1)?.is_some();
+    seen(done && id == ID && next, format!("used {done} by id {id}; the next: {next}"))
 }

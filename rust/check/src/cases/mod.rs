@@ -6,11 +6,14 @@ mod configuration;
 mod headers;
 mod hostile;
 mod inflight;
+mod killed;
 mod log;
 mod memory;
 mod moving;
 mod negotiation;
 mod others;
+mod packed_rings;
+mod page_faults;
 mod programs;
 mod reset;
 mod ring_requests;
@@ -44,10 +47,13 @@ pub fn all() -> impl Iterator<Item = &'static Case> {
         memory::CASES,
         ring_states::CASES,
         ring_requests::CASES,
+        packed_rings::CASES,
         configuration::CASES,
         log::CASES,
         inflight::CASES,
+        killed::CASES,
         moving::CASES,
+        page_faults::CASES,
         channel::CASES,
         reset::CASES,
         others::CASES,

@@ -41,7 +41,7 @@ fn userfault_is_opened(t: &mut Target) -> Outcome {
 }
 
 /// A connection whose backend awaits page faults, with its userfaultfd.
-fn listening(t: &mut Target, more: Feature) -> Result<(Connection, Reply, Reply), Stop> {
+pub(super) fn listening(t: &mut Target, more: Feature) -> Result<(Connection, Reply, Reply), Stop> {
     let (mut c, advice) = advised(t, Feature::REPLY_ACK | more)?;
     let userfault = advice.descriptors.first().ok_or_else(|| Stop::Odd(format!("no descriptor: {advice}")))?;
     // (some backends have done so)
@@ -52,7 +52,7 @@ fn listening(t: &mut Target, more: Feature) -> Result<(Connection, Reply, Reply)
 }
 
 /// Where a backend says that it has mapped the first region of a message.
-fn base_in(reply: &Reply) -> u64 {
+pub(super) fn base_in(reply: &Reply) -> u64 {
     u64_at(&reply.body, 24)
 }
 

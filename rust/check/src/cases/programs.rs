@@ -1,15 +1,22 @@
 // SPDX-License-Identifier: Apache-2.0
 //! The conventions of programs.
+use std::ffi::OsString;
 use std::fs;
-use std::process::{Command, Stdio};
+use std::os::unix::ffi::OsStrExt;
+use std::os::unix::net::{UnixListener, UnixStream};
+use std::process::{Child, Command, Stdio};
 
 use super::*;
 use crate::patience::{family, is_alive, Patience};
-use crate::system::in_own_group;
+use crate::system::{in_own_group, inherit};
 use crate::target::{with_path, Place, Setup};
 
-pub(super) const CASES: &[Case] =
-    &[("PRG-01", ends_by_sigterm), ("PRG-02", capabilities_are_printed), ("PRG-04", stays_in_front)];
+pub(super) const CASES: &[Case] = &[
+    ("PRG-01", ends_by_sigterm),
+    ("PRG-02", capabilities_are_printed),
+    ("PRG-03", serves_a_descriptor),
+    ("PRG-04", stays_in_front),
+];
 
 fn ends_by_sigterm(t: &mut Target) -> Outcome {
     let mut c = t.negotiate()?;
@@ -23,7 +30,7 @@ fn ends_by_sigterm(t: &mut Target) -> Outcome {
     seen(status.is_some(), status.map_or("goes on".to_string(), |it| it.to_string()))
 }
 
-fn program_of(t: &Target) -> Result<Vec<std::ffi::OsString>, Stop> {
+fn program_of(t: &Target) -> Result<Vec<OsString>, Stop> {
     match &t.place {
         Place::Program(words) => Ok(words.iter().map(|it| with_path(it, &t.path())).collect()),
         Place::Socket(_) => Err(Stop::Skip("it was not started here".to_string())),
@@ -31,7 +38,12 @@ fn program_of(t: &Target) -> Result<Vec<std::ffi::OsString>, Stop> {
 }
 
 fn capabilities_are_printed(t: &mut Target) -> Outcome {
-    let program = fs::canonicalize(program_of(t)?.swap_remove(0)).map_err(|cause| Stop::Skip(cause.to_string()))?;
+    let program = program_of(t)?.swap_remove(0);
+    // (a name alone is looked for in PATH; what has a folder is to be found from another one, too)
+    let program = match program.as_bytes().contains(&b'/') {
+        true => fs::canonicalize(program).map_err(|cause| Stop::Skip(cause.to_string()))?.into(),
+        false => program,
+    };
     let path = t.path().with_file_name("capabilities");
     // (one that does not know the word may take it for a path)
     let mut command = Command::new(program);
@@ -47,6 +59,61 @@ fn capabilities_are_printed(t: &mut Target) -> Outcome {
     let text = fs::read_to_string(&path)?;
     let is_object = text.trim_start().starts_with('{') && text.contains("\"type\"");
     seen(status.success() && is_object, format!("{status}: {}", text.lines().next().unwrap_or("")))
+}
+
+/// A program that is ended with its case.
+struct Started(Child);
+
+impl Drop for Started {
+    fn drop(&mut self) {
+        let _ = self.0.kill();
+        let _ = self.0.wait();
+    }
+}
+
+/// Of the conventions a program knows the one option where it knows the other. They leave open whether its socket is connected, or listens.
+fn serves_a_descriptor(t: &mut Target) -> Outcome {
+    let words = program_of(t)?;
+    let path = format!("--socket-path={}", t.path().display());
+    let at = words.iter().position(|it| it.to_string_lossy() == path);
+    let at = at.ok_or_else(|| Stop::Skip("no word of it is --socket-path=%s".to_string()))?;
+    t.stop();
+    let (kept, given) = UnixStream::pair()?;
+    let first = served_by(t, &words, at, given.into(), || Ok(kept));
+    if let Ok(offered) = first {
+        return seen(true, format!("one that is connected: features {offered:#x}"));
+    }
+    let path = t.path();
+    let _ = fs::remove_file(&path);
+    let listener = UnixListener::bind(&path)?;
+    let second = served_by(t, &words, at, listener.into(), || UnixStream::connect(&path));
+    let _ = fs::remove_file(&path);
+    match (first, second) {
+        (_, Ok(offered)) => seen(true, format!("one that listens: features {offered:#x}")),
+        (first, Err(stop)) => {
+            seen(false, format!("connected: {}; listening: {stop}", first.map_or_else(|it| it.to_string(), |_| String::new())))
+        }
+    }
+}
+
+/// The features that a program offers which is started with a socket.
+fn served_by(
+    t: &Target,
+    words: &[OsString],
+    at: usize,
+    given: OwnedFd,
+    connect: impl FnOnce() -> std::io::Result<UnixStream>,
+) -> Result<u64, Stop> {
+    inherit(&given)?;
+    let mut words = words.to_vec();
+    words[at] = format!("--fd={}", given.as_raw_fd()).into();
+    let mut command = Command::new(&words[0]);
+    let command = command.args(&words[1..]).stdin(Stdio::null()).stdout(Stdio::null()).stderr(Stdio::null());
+    let child = Started(in_own_group(command).spawn()?);
+    drop(given);
+    let mut c = Connection::new(connect()?, t.limit, t.trace.clone());
+    c.process = Some(child.0.id() as i32);
+    c.number(Request::GET_FEATURES)
 }
 
 fn stays_in_front(t: &mut Target) -> Outcome {

@@ -5,11 +5,12 @@ use std::os::unix::io::{AsRawFd, OwnedFd, RawFd};
 use std::os::unix::net::{UnixListener, UnixStream};
 use std::path::Path;
 use std::sync::atomic::{AtomicBool, Ordering};
-use std::sync::{Arc, Mutex};
+use std::sync::Arc;
 use std::thread::{sleep, spawn, JoinHandle};
 use std::time::Duration;
 
 use crate::system::{event, is_readable, memory_file, receive, send};
+use crate::trace::{Bytes, Piece, Trace, Way, Went};
 use crate::wire::*;
 
 /// How a request is answered wrongly.
@@ -98,6 +99,13 @@ struct Message {
     descriptors: Vec<OwnedFd>,
 }
 
+/// What has come of a message.
+#[derive(Default)]
+struct Came {
+    pieces: Vec<Piece>,
+    descriptors: Vec<OwnedFd>,
+}
+
 /// An answer on its way.
 struct Answer {
     code: u32,
@@ -109,7 +117,7 @@ struct Answer {
 
 pub struct Backend {
     stop: Arc<AtomicBool>,
-    trace: Arc<Mutex<Vec<String>>>,
+    trace: Trace,
     thread: Option<JoinHandle<()>>,
 }
 
@@ -120,21 +128,28 @@ impl Backend {
         let listener = UnixListener::bind(path)?;
         let found = WRONGS.iter().find(|it| it.0 == case);
         let (_, at, wrong) = *found.ok_or_else(|| io::Error::new(io::ErrorKind::NotFound, "no such case"))?;
-        let (stop, trace) = (Arc::new(AtomicBool::new(false)), Arc::new(Mutex::new(Vec::new())));
-        let mut serving =
-            Serving { at, wrong, is_done: false, late: limit / 2, stop: stop.clone(), trace: trace.clone(), channel: None };
+        let (stop, trace) = (Arc::new(AtomicBool::new(false)), Trace::new());
+        let mut serving = Serving {
+            at,
+            wrong,
+            is_done: false,
+            late: limit / 2,
+            stop: stop.clone(),
+            trace: trace.clone(),
+            session: 0,
+            channel: None,
+        };
         let thread = spawn(move || serving.serve_all(&listener));
         Ok(Backend { stop, trace, thread: Some(thread) })
     }
 
     /// Ends it: what went.
-    pub fn end(mut self) -> Vec<String> {
+    pub fn end(mut self) -> Vec<Went> {
         self.stop.store(true, Ordering::SeqCst);
         if let Some(thread) = self.thread.take() {
             let _ = thread.join();
         }
-        let lines = self.trace.lock().map(|it| it.clone());
-        lines.unwrap_or_default()
+        self.trace.all()
     }
 }
 
@@ -144,7 +159,8 @@ struct Serving {
     is_done: bool,
     late: Duration,
     stop: Arc<AtomicBool>,
-    trace: Arc<Mutex<Vec<String>>>,
+    trace: Trace,
+    session: u64,
     channel: Option<UnixStream>,
 }
 
@@ -153,20 +169,16 @@ impl Serving {
         self.stop.load(Ordering::SeqCst)
     }
 
-    fn note(&self, way: char, bytes: &[u8]) {
-        if let Ok(mut lines) = self.trace.lock() {
-            lines.push(format!("{way} {}", hex_of(&bytes[..bytes.len().min(80)])));
-        }
-    }
-
     fn serve_all(&mut self, listener: &UnixListener) {
         while !self.is_stopped() {
             if !is_readable(listener, STEP) {
                 continue;
             }
             if let Ok((socket, _)) = listener.accept() {
+                self.session = self.trace.connect();
                 // (a session that the frontend ends is served)
                 let _ = self.serve(&socket);
+                self.trace.end(self.session, Way::ToFrontend, None);
                 self.channel = None;
             }
         }
@@ -175,7 +187,6 @@ impl Serving {
     fn serve(&mut self, socket: &UnixStream) -> io::Result<()> {
         loop {
             let message = self.next(socket)?;
-            self.note('<', &joined(&[&header(message.code, message.flags, message.body.len() as u32), &message.body]));
             let is_it = message.code == u32::from(self.at) && !self.is_done;
             let answer = self.answer(message)?;
             self.is_done = self.is_done || is_it;
@@ -186,7 +197,7 @@ impl Serving {
         }
     }
 
-    fn take(&self, socket: &UnixStream, count: usize, descriptors: &mut Vec<OwnedFd>) -> io::Result<Vec<u8>> {
+    fn take(&self, socket: &UnixStream, count: usize, came: &mut Came) -> io::Result<Vec<u8>> {
         let (mut bytes, mut at) = (vec![0; count], 0);
         while at < count {
             if self.is_stopped() {
@@ -195,20 +206,43 @@ impl Serving {
             if !is_readable(socket, STEP) {
                 continue;
             }
-            match receive(socket, &mut bytes[at..], descriptors)? {
+            let before = came.descriptors.len();
+            match receive(socket, &mut bytes[at..], &mut came.descriptors)? {
                 0 => return Err(io::ErrorKind::UnexpectedEof.into()),
-                more => at += more,
+                more => {
+                    came.pieces.push(Piece::received(&bytes[at..at + more], &came.descriptors[before..]));
+                    at += more;
+                }
             }
         }
         Ok(bytes)
     }
 
     fn next(&self, socket: &UnixStream) -> io::Result<Message> {
-        let mut descriptors = Vec::new();
-        let head = self.take(socket, 12, &mut descriptors)?;
+        let mut came = Came::default();
+        let read = self.read_message(socket, &mut came);
+        let Came { pieces, descriptors } = came;
+        self.trace.note(self.session, Bytes { way: Way::ToBackend, is_sent: false, is_shown: true, pieces });
+        if let Err(cause) = &read {
+            self.tell_end(cause);
+        }
+        read.map(|message| Message { descriptors, ..message })
+    }
+
+    fn read_message(&self, socket: &UnixStream, came: &mut Came) -> io::Result<Message> {
+        let head = self.take(socket, 12, came)?;
         let [code, flags, size] = [0, 4, 8].map(|at| u32_at(&head, at));
-        let body = self.take(socket, size.min(1 << 16) as usize, &mut descriptors)?;
-        Ok(Message { code, flags, body, descriptors })
+        let body = self.take(socket, size.min(1 << 16) as usize, came)?;
+        Ok(Message { code, flags, body, descriptors: Vec::new() })
+    }
+
+    /// The frontend's stream has ended, unless the case is over.
+    fn tell_end(&self, cause: &io::Error) {
+        match cause.kind() {
+            io::ErrorKind::Interrupted => {}
+            io::ErrorKind::UnexpectedEof => self.trace.end(self.session, Way::ToBackend, None),
+            _ => self.trace.end(self.session, Way::ToBackend, Some(cause.to_string())),
+        }
     }
 
     /// What is right; nothing where nothing is replied.
@@ -246,8 +280,13 @@ impl Serving {
     }
 
     fn put(&self, socket: &UnixStream, bytes: &[u8], descriptors: &[RawFd]) -> io::Result<()> {
-        self.note('>', bytes);
+        self.put_by(socket, Way::ToFrontend, bytes, descriptors)
+    }
+
+    fn put_by(&self, socket: &UnixStream, way: Way, bytes: &[u8], descriptors: &[RawFd]) -> io::Result<()> {
         let sent = send(socket, bytes, descriptors)?;
+        let pieces = vec![Piece::sent(&bytes[..sent], descriptors)];
+        self.trace.note(self.session, Bytes { way, is_sent: true, is_shown: true, pieces });
         match sent == bytes.len() {
             true => Ok(()),
             false => Err(io::ErrorKind::WriteZero.into()),
@@ -305,7 +344,7 @@ impl Serving {
         if let Wrong::ChannelThenSilent = self.wrong {
             (self.at, self.wrong, self.is_done) = (Request::GET_CONFIG, Wrong::Silent, false);
         }
-        self.put(&channel, &bytes, &[])
+        self.put_by(&channel, Way::Channel, &bytes, &[])
     }
 }
 
