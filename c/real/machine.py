@@ -4,7 +4,8 @@
     machine.py TRY DISK BOOT [ANY [FRAMES]]    in an empty folder: DISK is the compiled c/blk.c, BOOT the sector of boot.S, ANY the compiled
                                                any.c; for display DISK is the compiled picture.c, for entropy ANY the compiled c/rng.c; for
                                                frames ANY is the compiled c/net.c, and FRAMES the compiled frames.c; for ping and
-                                               ping_migration ANY is the program covretin-net
+                                               ping_migration ANY is the program covretin-net; for vsock ANY is the example vsock
+                                               in Rust, and FRAMES the compiled echoes.c
 
 Prints what is done. Status 0 where all was as it has to be; 1 where something was not, which the last line says. What runs is ended
 by then. The machines' consoles and the disks' lines are kept in the folder.
@@ -408,6 +409,41 @@ def tried_entropy(program):
         check(it.read() == "a frontend went: peer disconnected\n", "the source served one frontend to its end")
 
 
+def bring(machine, program):
+    """A program of this machine comes to the guest by its disk, whose partition it does not use."""
+    with open(program, "rb") as it, open("image", "r+b") as image:
+        bytes_there = it.read()
+        image.seek(SYSTEM_AT * SECTOR)
+        image.write(bytes_there)
+    machine.do(f"head -c {len(bytes_there)} /dev/vda1 >/tmp/program && chmod +x /tmp/program")
+
+
+def tried_vsock(program):
+    """A socket device in Rust: what a program of the guest sends to its host comes back, also once the guest has rebooted amid that."""
+    disk = Disk(program)
+    path = f"vsock-{os.getpid()}.socket"
+    with open("vsock.said", "wb") as log:
+        device = run([ANY, path], log)
+    wait_until(lambda: os.path.exists(path), "the device listens", 10)
+    machine = boot("machine", disk, "-chardev", f"socket,id=vsock,path={path}", *DEVICES["vsock"][0])
+    machine.ask("set-action", reboot="reset")
+    for is_last in (False, True):
+        bring(machine, FRAMES)
+        machine.do("for it in vsock vmw_vsock_virtio_transport_common vmw_vsock_virtio_transport; do insmod /modules/$it.ko || exit 1; done")
+        check(machine.do("/tmp/program") == "800000 bytes came back", "the guest has back what it sent")
+        if not is_last:
+            machine.do("/tmp/program >/dev/null &")
+            machine.begin("reboot -f")
+            machine.hear(rb"the boot sector was read")
+            machine.hear(rb"#ready\r?\n")
+    machine.power_off()
+    disk.end()
+    device.terminate()
+    wait_for_end(device, "the device")
+    with open("vsock.said", encoding="utf-8") as it:
+        check(set(it.read().splitlines()) == {"a frontend went: peer disconnected"}, "the device served one frontend to its end")
+
+
 def tried_frames(program):
     """A network card that sends each frame back: what a program of the guest sends through Linux's driver comes to it again."""
     disk = Disk(program)
@@ -416,13 +452,9 @@ def tried_frames(program):
         card = run([ANY, path], log)
     wait_until(lambda: os.path.exists(path), "the card listens", 10)
     machine = boot("machine", disk, "-chardev", f"socket,id=net,path={path}", *DEVICES["net"][0])
-    with open(FRAMES, "rb") as it, open("image", "r+b") as image:
-        frames = it.read()
-        image.seek(SYSTEM_AT * SECTOR)
-        image.write(frames)
-    machine.do(f"head -c {len(frames)} /dev/vda1 >/tmp/frames && chmod +x /tmp/frames")
+    bring(machine, FRAMES)
     machine.do("for it in failover net_failover virtio_net; do insmod /modules/$it.ko || exit 1; done; ip link set eth0 up")
-    check(machine.do("/tmp/frames eth0") == "1024 frames came back", "the guest has back what it sent")
+    check(machine.do("/tmp/program eth0") == "1024 frames came back", "the guest has back what it sent")
     machine.power_off()
     disk.end()
     end_cards([card])
