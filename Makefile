@@ -4,7 +4,7 @@
 #   make                  build/: libcovretin.a, libcovretin.so, covretin.pc
 #   make programs         build/covretin-ask; the devices covretin-blk (with io_uring where liburing is there), covretin-rng, covretin-net
 #                         and covretin-console; and for x86-64 vhost-run and vhost-daemon, which are proved
-#   make check            the tests in C
+#   make check            the tests in C, a line for each group; V=1 also shows how all is compiled
 #   make install          all of these, and covretin, which runs them, to PREFIX, or BINDIR, LIBDIR, INCLUDEDIR, DATADIR, MANDIR, UNITDIR;
 #                         below DESTDIR; also build/covretin-tap and covretin-check, where cargo's were put there; and the dissector for
 #                         Wireshark to PLUGINDIR, which Wireshark reads where it has the same PREFIX and LIBDIR
@@ -33,7 +33,7 @@ CFLAGS ?= -O2
 OBJCOPY ?= $(shell $(CC) -print-prog-name=objcopy)
 BUILD ?= build
 
-LACKING := $(shell CC='$(CC)' scripts/needs.sh cc headers ar sha256sum 2>&1)
+LACKING := $(shell CC='$(CC)' scripts/build/needs.sh cc headers ar sha256sum 2>&1)
 ifneq ($(LACKING),)
 $(error $(LACKING))
 endif
@@ -112,7 +112,7 @@ programs: $(PROGRAMS:%=$(BUILD)/%)
 
 # It notes the bytes that go through the glue, so it is linked with its objects.
 ASKING := $(BUILD)/proved.o $(BUILD)/covretin_transport.o $(BUILD)/covretin_text.o $(BUILD)/covretin_memory.o
-$(BUILD)/covretin-ask: $(BUILD)/ask.o $(BUILD)/ask_calls.o $(ASKING)
+$(BUILD)/covretin-ask: $(BUILD)/ask.o $(BUILD)/ask_calls.o $(BUILD)/line_reasons.o $(ASKING)
 	$(CC) $(CFLAGS) $(LDFLAGS) -pthread -o $@ $^
 
 # The examples' devices behind one main program.
@@ -122,19 +122,21 @@ $(BUILD)/covretin-blk: LIBRARIES := $(URING)
 $(BUILD)/covretin-rng: c/tools/entropy.c c/rng.c
 $(BUILD)/covretin-net: c/tools/card.c
 $(BUILD)/covretin-console: c/tools/console.c
-$(DEVICES:%=$(BUILD)/%): c/tools/program.c c/tools/program.h $(BUILD)/libcovretin.a
+$(DEVICES:%=$(BUILD)/%): c/tools/program.c c/tools/counts.c c/tools/program.h c/tools/counts.h $(BUILD)/libcovretin.a
 	$(COMPILE) $(LDFLAGS) -pthread -o $@ $(filter c/tools/%.c,$^) $(BUILD)/libcovretin.a $(LIBRARIES)
 
-# (vhost-daemon tells of itself)
-$(BUILD)/vhost-run: $(BUILD)/vhost_run_about.o
+# (vhost-daemon tells of itself, and refuses nothing)
+$(BUILD)/vhost-run: $(BUILD)/vhost_run_about.o $(BUILD)/vhost_run_reasons.o $(BUILD)/line_reasons.o
+$(BUILD)/vhost-run: LIBRARIES := -Wl,--wrap=read -Wl,--wrap=write
 $(BUILD)/vhost-%: $(GENERATED)/vhost-%.s $(BUILD)/covretin_program.o $(BUILD)/covretin_memory.o
 	$(IS_PROVED)
 	$(CC) $(OF_MACHINE) -c -o $@.o $<
-	$(CC) $(CFLAGS) $(LDFLAGS) -pthread -o $@ $@.o $(filter %.o,$^)
+	$(CC) $(CFLAGS) $(LDFLAGS) -pthread -o $@ $@.o $(filter %.o,$^) $(LIBRARIES)
 	rm -f $@.o
 
-check: all
-	@CC='$(CC)' AR='$(AR)' ./test-c --groups
+check:
+	@$(MAKE) $(if $(V),,-s) all
+	@CC='$(CC)' AR='$(AR)' ./test c --groups
 
 BACKENDS = $(DATADIR)/qemu/vhost-user
 FOLDERS = $(BINDIR) $(LIBDIR)/pkgconfig $(INCLUDEDIR) $(DATADIR)/covretin $(BACKENDS) $(UNITDIR) $(PLUGINDIR) $(DOCDIR)/examples $(MANDIR)/man1 \
@@ -175,7 +177,7 @@ install: all programs $(UNITS:%=$(BUILD)/%)
 	for name in $(DESCRIPTORS); do sed 's,@BINDIR@,$(BINDIR),' c/tools/$$name >$(BUILD)/$$name || exit; done
 	$(INSTALL) -m 644 $(DESCRIPTORS:%=$(BUILD)/%) $(DESTDIR)$(BACKENDS)
 	$(INSTALL) -m 644 $(UNITS:%=$(BUILD)/%) $(DESTDIR)$(UNITDIR)
-	$(INSTALL) -m 644 wireshark/vhost_user.lua $(DESTDIR)$(PLUGINDIR)
+	$(INSTALL) -m 644 protocol/vhost_user.lua $(DESTDIR)$(PLUGINDIR)
 	$(INSTALL) -m 644 $(PAGES1:%=man/%) $(DESTDIR)$(MANDIR)/man1
 	$(INSTALL) -m 644 $(PAGES7:%=man/%) $(DESTDIR)$(MANDIR)/man7
 

@@ -5,6 +5,7 @@
 
 #include "ask.h"
 #include "covretin_transport.h"
+#include "line_reasons.h"
 
 #include <errno.h>
 #include <fcntl.h>
@@ -47,6 +48,8 @@ static const char help[] =
 covretin_session session;
 static struct transport *transport;
 static int limit = -1; /* milliseconds for a call; negative: none */
+static uint64_t rings = 2;
+static const char *how_many = ": --rings=N says how many, or get_queue_num";
 uint64_t line_number;
 
 /* What was sent and what came for it, as it is shown. */
@@ -165,6 +168,15 @@ static void show_error(enum covretin_error error)
         printf(" 0x%" PRIx64, covretin_inactive(&session));
 }
 
+/* Says why a call was refused before anything was sent, if its error does not. */
+static void say_why(const struct call *call, const struct arguments *of, enum covretin_error error)
+{
+    if (error == COVRETIN_INACTIVE_FEATURE || error == COVRETIN_INACTIVE_OPERATION)
+        say_not_accepted(line_number, call->name, error == COVRETIN_INACTIVE_FEATURE, covretin_inactive(&session));
+    else if (error == COVRETIN_INVALID_PARAM && strstr(call->name, "vring") != NULL && of->numbers[1] >= rings)
+        say_no_ring(line_number, call->name, of->numbers[1], rings, how_many);
+}
+
 static bool is_shown; /* whether the line of the call was printed */
 
 /* Takes the reply, and shows it while its descriptors are open. */
@@ -180,6 +192,8 @@ static enum covretin_error take(void *of)
     if (!error) {
         printf("ok");
         error = show_answer(call->answer);
+        if (strcmp(call->name, "get_queue_num") == 0 && covretin_answer_number(&session, &rings) == COVRETIN_OK)
+            how_many = "";
     } else
         show_error(error);
     printf("\n");
@@ -227,6 +241,7 @@ static void call(const struct call *it, const struct arguments *of)
     else
         printf("ok");
     printf("\n");
+    say_why(it, of, error);
 }
 
 /* -- Lines -- */
@@ -348,7 +363,6 @@ static int say(const char *first, const char *second)
 int main(int argc, char **argv)
 {
     enum covretin_profile profile = COVRETIN_PROFILE_STANDARD;
-    uint64_t rings = 2;
     const char *path = NULL;
     hold_streams();
     signal(SIGPIPE, SIG_IGN);

@@ -177,12 +177,24 @@ static size_t bytes_of(const char *word, uint8_t *bytes)
         return covretin_ask_##name(&session, of->numbers[1], (type)of->numbers[2]); \
     }
 
-/* generated from protocol/requests.toml: calls without an argument */
+/* generated from protocol/requests.toml: calls of plain arguments */
 BARE(get_features)
+ONE(set_features, uint64_t)
 BARE(set_owner)
 BARE(reset_owner)
+ONE(set_log_fd, int32_t)
+RING(set_vring_num, uint16_t)
+RING(set_vring_base, uint32_t)
+ONE(get_vring_base, size_t)
+RING(set_vring_kick, int32_t)
+RING(set_vring_call, int32_t)
+RING(set_vring_err, int32_t)
 BARE(get_protocol_features)
+ONE(set_protocol_features, uint64_t)
 BARE(get_queue_num)
+RING(set_vring_enable, bool)
+ONE(set_mtu, uint16_t)
+ONE(set_backend_request_fd, int32_t)
 BARE(postcopy_advise)
 BARE(postcopy_listen)
 BARE(postcopy_end)
@@ -190,20 +202,8 @@ BARE(reset_device)
 BARE(get_max_mem_slots)
 BARE(check_device_state)
 BARE(get_shmem_config)
-/* end */
-ONE(set_features, uint64_t)
-ONE(set_protocol_features, uint64_t)
-ONE(get_vring_base, size_t)
-ONE(set_log_fd, int32_t)
-ONE(set_backend_request_fd, int32_t)
 ONE(postcopy_ack_mem_regions, uint32_t)
-ONE(set_mtu, uint16_t)
-RING(set_vring_num, uint16_t)
-RING(set_vring_base, uint32_t)
-RING(set_vring_call, int32_t)
-RING(set_vring_kick, int32_t)
-RING(set_vring_err, int32_t)
-RING(set_vring_enable, bool)
+/* end */
 
 /* The region whose words begin at a place. */
 static covretin_region region_at(const struct arguments *of, size_t at)

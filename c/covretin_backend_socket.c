@@ -296,11 +296,7 @@ uint32_t covretin_service_request(const covretin_service *service)
 
 enum covretin_error covretin_backend_set_other(covretin_service *service, serving_other *other, void *context)
 {
-    struct serving *serving = service->opaque;
-    if (serving == NULL)
-        return COVRETIN_NO_SESSION;
-    serving->hook = (struct serving_hook){other, context};
-    return COVRETIN_OK;
+    return serving_set_hook(service->opaque, &(struct serving_hook){.other = other, .context = context});
 }
 
 /* -- Requests -- */

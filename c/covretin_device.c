@@ -5,10 +5,11 @@
 #endif
 
 #include "covretin_device_session.h"
-#include "covretin_transport.h"
+#include "covretin_serving.h"
 
 #include <errno.h>
 #include <poll.h>
+#include <sched.h>
 #include <signal.h>
 #include <stdlib.h>
 #include <string.h>
@@ -41,13 +42,27 @@ static void poll_socket(struct session *session, short events)
     session->events = events;
 }
 
+/* (a refusal is counted before the frontend can know of it) */
+static void count_refusal(void *context)
+{
+    struct session *session = context;
+    session->has_counted = true;
+    COUNT(session, refusals, 1);
+}
+
 static void tell_refused(struct session *session, enum covretin_error error)
 {
     uint32_t request = session->last_request = covretin_service_request(&session->frontend);
+    if (error == COVRETIN_OK && session->is_refused)
+        error = COVRETIN_BACKEND_INTERNAL_ERROR; /* its reply says so */
+    session->is_refused = false;
     if (error == COVRETIN_OK || error == COVRETIN_DISCONNECTED)
         return;
-    COUNT(session, refusals, 1);
+    if (!session->has_counted)
+        count_refusal(session);
+    session->has_counted = false;
     log_refused(session, request, error);
+    session->detail[0] = '\0';
     if (session->calls->refused == NULL)
         return;
     pthread_mutex_unlock(&session->lock);
@@ -210,6 +225,7 @@ static void session_free(struct session *session)
 {
     for (uint32_t i = 0; i < COVRETIN_DEVICE_MAX_QUEUES; i++)
         covretin_queue_close(&session->rings[i].queue);
+    taken_free_kept(session);
     teller_free(session);
     share_release(session->holder.share);
     close_if(session->empty);
@@ -266,6 +282,7 @@ enum covretin_error covretin_device_serve(covretin_device *device)
     pthread_mutex_lock(&session->lock);
     uint64_t began = time_now();
     session->ends_at = began + TURN;
+    session->is_waiting = false;
     serve_what_is_ready(session);
     for (unsigned turn = 1; turn < MOST_TURNS && !has_ended(session) && rings_busy_poll(session); turn++)
         serve_what_is_ready(session);
@@ -280,6 +297,7 @@ enum covretin_error covretin_device_serve(covretin_device *device)
         why = session->why;
     }
     count_turn(session, began);
+    session->is_waiting = true;
     pthread_mutex_unlock(&session->lock);
     return why;
 }
@@ -290,6 +308,13 @@ bool poll_for(const struct session *session, int fd, uint32_t of)
 {
     struct epoll_event ready = {.events = EPOLLIN, .data.u32 = of};
     return fd >= 0 && epoll_ctl(session->polled, EPOLL_CTL_ADD, fd, &ready) == 0;
+}
+
+/* Whether this thread, and those that it begins, may use one processor alone. */
+static bool is_on_one_processor(void)
+{
+    cpu_set_t set;
+    return sched_getaffinity(0, sizeof set, &set) == 0 && CPU_COUNT(&set) == 1;
 }
 
 /* What the system and the proved part have to give for a session. SOCKET_ERROR, OUT_OF_MEMORY. */
@@ -317,7 +342,8 @@ static enum covretin_error prepare(struct session *session)
 /* Whether a device can be made of this table. What this version knows nothing of is not left aside in silence. */
 static enum covretin_error check_table(const covretin_device_calls *calls)
 {
-    if (calls->request == NULL || calls->queues == 0 || calls->queues > COVRETIN_DEVICE_MAX_QUEUES)
+    if ((calls->request == NULL && calls->requests == NULL) || calls->queues == 0 || calls->queues > COVRETIN_DEVICE_MAX_QUEUES ||
+        calls->max_queue_size > COVRETIN_DEVICE_MAX_QUEUE_SIZE)
         return COVRETIN_INVALID_PARAM;
     for (size_t i = 0; i < sizeof calls->later / sizeof *calls->later; i++)
         if (calls->later[i] != 0)
@@ -339,8 +365,9 @@ static enum covretin_error take_frontend(struct session *session, covretin_liste
     if (!poll_for(session, listener != NULL ? covretin_service_fd(&session->frontend) : fd, SOCKET))
         return COVRETIN_SOCKET_ERROR;
     error = listener != NULL ? COVRETIN_OK : covretin_serve_fd(&session->frontend, fd);
-    if (error == COVRETIN_OK && session->calls->other != NULL)
-        covretin_backend_set_other(&session->frontend, answer_other, session);
+    if (error == COVRETIN_OK)
+        serving_set_hook(session->frontend.opaque,
+                         &(struct serving_hook){session->calls->other != NULL ? answer_other : NULL, count_refusal, session});
     return error;
 }
 
@@ -363,6 +390,7 @@ static enum covretin_error open_session(covretin_device *device, const covretin_
     session->own = own;
     session->signals = signals;
     session->inflight_fd = session->teller.timer = -1;
+    session->is_on_one_processor = calls->busy_poll_us != 0 && is_on_one_processor();
     for (uint32_t i = 0; i < COVRETIN_DEVICE_MAX_QUEUES; i++) {
         session->rings[i].kick = -1;
         session->rings[i].call.fd = session->rings[i].error.fd = -1;
@@ -432,50 +460,77 @@ void covretin_device_close(covretin_device *device)
 
 /* -- Requests -- */
 
-void covretin_request_done(covretin_request *request, uint32_t written)
+/* Those of a queue that lie side by side are given back together: how many these are. */
+static size_t done_alike(struct session *session, covretin_request *const *requests, const uint32_t *written, size_t count)
 {
-    struct taken *taken = (struct taken *)(void *)request;
-    struct session *session = taken->session;
-    struct ring *ring = &session->rings[request->queue];
+    struct ring *ring = &session->rings[requests[0]->queue];
+    size_t alike = 1;
+    while (alike < count && requests[alike]->queue == requests[0]->queue)
+        alike++;
+    if (!has_ended(session))
+        ring_give(session, ring, requests, written, alike);
+    for (size_t i = 0; i < alike; i++) {
+        struct taken *taken = (struct taken *)(void *)requests[i];
+        space_release(taken->space);
+        taken_drop(session, taken);
+    }
+    ring_count_in(session, ring, alike);
+    return alike;
+}
+
+void covretin_requests_done(covretin_request *const *requests, const uint32_t *written, size_t count)
+{
+    struct session *session;
     bool is_last;
+    if (count == 0)
+        return;
+    session = ((struct taken *)(void *)requests[0])->session;
     take_faults();
     pthread_mutex_lock(&session->lock);
-    if (!has_ended(session))
-        ring_give(session, ring, taken, written);
-    space_release(taken->space);
-    ring->out--;
-    session->out--;
+    for (size_t done = 0; done < count;)
+        done += done_alike(session, requests + done, written + done, count - done);
     if (session->waits != 0 || session->why != COVRETIN_OK)
         wake_up(session->holder.wake);
     is_last = session->is_closed && session->out == 0;
     pthread_mutex_unlock(&session->lock);
-    free(taken);
     if (is_last)
         session_free(session);
 }
 
-static covretin_request *session_take(struct session *session, uint32_t queue)
+void covretin_request_done(covretin_request *request, uint32_t written)
 {
-    covretin_request *request;
+    covretin_requests_done(&request, &written, 1);
+}
+
+static size_t session_take(struct session *session, uint32_t queue, covretin_request **requests, size_t most)
+{
+    size_t count;
     if (queue >= session->calls->queues)
-        return NULL;
+        return 0;
     take_faults();
     pthread_mutex_lock(&session->lock);
-    request = ring_take(session, &session->rings[queue]);
+    count = ring_take(session, &session->rings[queue], requests, most);
     if (session->rings[queue].is_due || has_ended(session))
         wake_up(session->holder.wake);
     pthread_mutex_unlock(&session->lock);
-    return request;
+    return count;
+}
+
+size_t covretin_requests_take(const covretin_request *request, uint32_t queue, covretin_request **requests, size_t most)
+{
+    return session_take(((const struct taken *)(const void *)request)->session, queue, requests, most);
 }
 
 covretin_request *covretin_request_take(const covretin_request *request, uint32_t queue)
 {
-    return session_take(((const struct taken *)(const void *)request)->session, queue);
+    covretin_request *found = NULL;
+    return covretin_requests_take(request, queue, &found, 1) == 1 ? found : NULL;
 }
 
 covretin_request *covretin_device_take(covretin_device *device, uint32_t queue)
 {
-    return device->opaque != NULL ? session_take(device->opaque, queue) : NULL;
+    covretin_request *found = NULL;
+    return device->opaque != NULL && session_take(device->opaque, queue, &found, 1) == 1 ? found : NULL;
 }
 
 bool covretin_request_is_lost(const covretin_request *request)
@@ -526,8 +581,14 @@ static void refuse_another(covretin_listener *listener, const covretin_device *d
         session->calls->turned_away(session->own);
 }
 
-/* Serves the frontend that is there until it goes. False: a signal came. */
-static bool serve_frontend(covretin_device *device, covretin_listener *listener, int signals)
+/* Whether a wait ended by itself: an error is no reason to wait again, unless a signal that the program handles came amid it. */
+static bool can_wait(int polled)
+{
+    return polled >= 0 || errno == EINTR;
+}
+
+/* Serves the frontend that is there until it goes: NOT_YET. 0: a signal came. SOCKET_ERROR: the system does not let it wait. */
+static enum covretin_error serve_frontend(covretin_device *device, covretin_listener *listener, int signals)
 {
     const covretin_device_calls *calls = ((const struct session *)device->opaque)->calls;
     for (bool takes_input = true;;) {
@@ -538,14 +599,17 @@ static bool serve_frontend(covretin_device *device, covretin_listener *listener,
                                   {.fd = waiting, .events = POLLIN},
                                   {.fd = signals, .events = POLLIN},
                                   {.fd = takes_input && calls->input_ready != NULL ? calls->input : -1, .events = POLLIN}};
-        if (poll(polled, 4, -1) < 0)
+        int ready = poll(polled, 4, -1);
+        if (!can_wait(ready))
+            return COVRETIN_SOCKET_ERROR;
+        if (ready < 0)
             continue;
         if (polled[2].revents != 0)
-            return false;
+            return COVRETIN_OK;
         if (polled[1].revents != 0)
             refuse_another(listener, device);
         if (polled[0].revents != 0 && covretin_device_serve(device) != COVRETIN_NOT_YET)
-            return true;
+            return COVRETIN_NOT_YET;
         if (polled[3].revents != 0 || (!takes_input && polled[0].revents != 0))
             takes_input = calls->input_ready(session->own, device);
     }
@@ -557,8 +621,10 @@ static enum covretin_error serve_all(const covretin_device_calls *calls, void *o
         struct pollfd polled[] = {{.fd = covretin_listener_fd(listener), .events = POLLIN}, {.fd = signals, .events = POLLIN}};
         covretin_device device = {0};
         enum covretin_error error;
-        bool goes_on;
-        if (poll(polled, 2, -1) < 0)
+        int ready = poll(polled, 2, -1), was;
+        if (!can_wait(ready))
+            return COVRETIN_SOCKET_ERROR;
+        if (ready < 0)
             continue;
         if (polled[1].revents != 0)
             return COVRETIN_OK;
@@ -567,10 +633,12 @@ static enum covretin_error serve_all(const covretin_device_calls *calls, void *o
             continue;
         if (error != COVRETIN_OK)
             return error;
-        goes_on = serve_frontend(&device, listener, signals);
+        error = serve_frontend(&device, listener, signals);
+        was = errno;
         covretin_device_close(&device);
-        if (!goes_on)
-            return COVRETIN_OK;
+        errno = was;
+        if (error != COVRETIN_NOT_YET)
+            return error;
     }
 }
 
@@ -637,7 +705,9 @@ enum covretin_error covretin_device_run_fd(const covretin_device_calls *calls, v
     enum covretin_error error = ending_begin(calls, &ending);
     if (error == COVRETIN_OK)
         error = open_session(&device, calls, own, NULL, fd, ending.signals);
-    if (error == COVRETIN_OK && serve_frontend(&device, NULL, ending.signals))
+    if (error == COVRETIN_OK)
+        error = serve_frontend(&device, NULL, ending.signals);
+    if (error == COVRETIN_NOT_YET)
         error = covretin_device_serve(&device);
     int was = errno;
     covretin_device_close(&device);

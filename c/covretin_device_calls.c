@@ -5,6 +5,7 @@
 #endif
 
 #include "covretin_device_session.h"
+#include "covretin_reasons.h"
 #include "covretin_transport.h"
 
 #include <fcntl.h>
@@ -38,6 +39,7 @@ static uint64_t protocol_features_of(const struct covretin_device_calls *calls)
 static enum covretin_error reply(struct session *session, bool is_done)
 {
     covretin_backend *backend = &session->frontend.backend;
+    session->is_refused = !is_done;
     return is_done ? covretin_reply_done(backend) : covretin_reply_refused(backend);
 }
 
@@ -70,10 +72,16 @@ static void tell_accepted(struct session *session)
     pthread_mutex_lock(&session->lock);
 }
 
+/* Whether all of these features were offered. */
+static bool are_offered(struct session *session, uint64_t accepted, uint64_t offered)
+{
+    return (accepted & ~offered) == 0 || log_why(session, REASON_NOT_OFFERED(accepted & ~offered));
+}
+
 static enum covretin_error set_features(struct session *session)
 {
     uint64_t accepted;
-    if (covretin_call_number(&session->frontend.backend, &accepted) || accepted & ~features_of(session))
+    if (covretin_call_number(&session->frontend.backend, &accepted) || !are_offered(session, accepted, features_of(session)))
         return reply(session, false);
     session->features = accepted;
     tell_accepted(session);
@@ -83,7 +91,8 @@ static enum covretin_error set_features(struct session *session)
 static enum covretin_error set_protocol_features(struct session *session)
 {
     uint64_t accepted;
-    if (covretin_call_number(&session->frontend.backend, &accepted) || accepted & ~protocol_features_of(session->calls))
+    if (covretin_call_number(&session->frontend.backend, &accepted) ||
+        !are_offered(session, accepted, protocol_features_of(session->calls)))
         return reply(session, false);
     session->protocol_features = accepted;
     tell_accepted(session);
@@ -102,7 +111,9 @@ static enum covretin_error get_config(struct session *session)
     pthread_mutex_unlock(&session->lock);
     is_read = session->calls->read_config(session->own, part.offset, bytes, part.size);
     pthread_mutex_lock(&session->lock);
-    return is_read ? covretin_reply_config(&session->frontend.backend, bytes, part.size) : reply(session, false);
+    if (!is_read)
+        return reply(session, log_why(session, REASON_NO_CONFIG(part.size, part.offset)));
+    return covretin_reply_config(&session->frontend.backend, bytes, part.size);
 }
 
 static enum covretin_error set_config(struct session *session)
@@ -111,12 +122,12 @@ static enum covretin_error set_config(struct session *session)
     covretin_config part;
     size_t count;
     bool is_written;
-    if (covretin_call_config(&session->frontend.backend, &part, bytes, sizeof bytes, &count) || session->calls->write_config == NULL)
+    if (covretin_call_config(&session->frontend.backend, &part, bytes, sizeof bytes, &count))
         return reply(session, false);
     pthread_mutex_unlock(&session->lock);
-    is_written = session->calls->write_config(session->own, part.offset, bytes, (uint32_t)count);
+    is_written = session->calls->write_config != NULL && session->calls->write_config(session->own, part.offset, bytes, (uint32_t)count);
     pthread_mutex_lock(&session->lock);
-    return reply(session, is_written);
+    return reply(session, is_written || log_why(session, REASON_FIXED_CONFIG(part.size, part.offset)));
 }
 
 static enum covretin_error set_backend_req_fd(struct session *session)
@@ -126,10 +137,14 @@ static enum covretin_error set_backend_req_fd(struct session *session)
     if (covretin_call_fd(&session->frontend.backend, &fd))
         return reply(session, false);
     if (session->calls->config_changed != NULL || session->calls->channel == NULL)
-        return reply(session, teller_begin(session, fd) && covretin_claim_call_fd(&session->frontend, fd) == COVRETIN_OK);
-    pthread_mutex_unlock(&session->lock);
-    is_taken = session->calls->channel(session->own, fd, session->protocol_features);
-    pthread_mutex_lock(&session->lock);
+        is_taken = teller_begin(session, fd);
+    else {
+        pthread_mutex_unlock(&session->lock);
+        is_taken = session->calls->channel(session->own, fd, session->protocol_features);
+        pthread_mutex_lock(&session->lock);
+    }
+    if (!is_taken)
+        log_why(session, REASON_NO_CHANNEL);
     return reply(session, is_taken && covretin_claim_call_fd(&session->frontend, fd) == COVRETIN_OK);
 }
 
@@ -161,13 +176,15 @@ static bool show_regions(struct session *session, const struct change *change)
         error = show_change(&session->rings[i].queue, change);
     if (error == COVRETIN_QUEUE_OUT_OF_MEMORY)
         session->why = COVRETIN_OUT_OF_MEMORY;
-    return error == COVRETIN_QUEUE_OK;
+    return error == COVRETIN_QUEUE_OK || log_why(session, "%s", log_rule(error));
 }
 
 /* The session has these regions, in the place of those that it had. A ring that lies in none of them is left alone until it does; what it
  * has of them stays mapped for it. NULL: they could not be made. */
 static bool use_regions(struct session *session, struct space *space, const struct change *change)
 {
+    if (space != NULL && space->count > COVRETIN_DEVICE_MAX_REGIONS)
+        log_why(session, "%s", log_rule(COVRETIN_QUEUE_TOO_MANY_REGIONS));
     if (space == NULL || space->count > COVRETIN_DEVICE_MAX_REGIONS || !show_regions(session, change)) {
         space_release(space);
         return false;
@@ -234,28 +251,57 @@ static enum covretin_error set_mem_table(struct session *session)
     return add_regions(session, NULL);
 }
 
+/* Which of the session's regions this one is; as many as there are: none. */
+static size_t find_region(const struct session *session, const covretin_region *region)
+{
+    const size_t had = session->space != NULL ? session->space->count : 0;
+    size_t at = 0;
+    for (; at < had; at++) {
+        const struct mapping *it = session->space->mappings[at];
+        if (it->guest == region->guest_phys_addr && it->user == region->user_addr && it->size == region->memory_size)
+            break;
+    }
+    return at;
+}
+
+/* The region that a call names, where the session has it. */
+static struct mapping *region_of_call(struct session *session, covretin_region *region, bool *listening)
+{
+    size_t count, at;
+    if (covretin_call_regions(&session->frontend.backend, region, 1, &count, listening))
+        return NULL;
+    at = find_region(session, region);
+    return session->space != NULL && at < session->space->count ? session->space->mappings[at] : NULL;
+}
+
+/* QEMU before 8.1 gives the same region once for each pair of a card's queues, and takes it back as often. (one that is given more often overlaps
+ * itself, as any other) */
 static enum covretin_error add_mem_reg(struct session *session)
 {
-    return add_regions(session, session->space);
+    covretin_region region;
+    bool listening;
+    struct mapping *there = region_of_call(session, &region, &listening);
+    if (there == NULL || there->again == session->calls->queues || !mapping_is_of(there, region.fd, region.mmap_offset, region.memory_size))
+        return add_regions(session, session->space);
+    there->again++;
+    const uint64_t base = (uint64_t)(uintptr_t)there->at;
+    return listening ? covretin_reply_bases(&session->frontend.backend, &base, 1) : reply(session, true);
 }
 
 static enum covretin_error rem_mem_reg(struct session *session)
 {
     covretin_region region;
-    struct change change = {.kind = ONE_LESS};
-    size_t at = 0, had = session->space != NULL ? session->space->count : 0;
+    struct change change = {.kind = ONE_LESS, .count = 1};
     bool listening;
-    if (covretin_call_regions(&session->frontend.backend, &region, 1, &change.count, &listening))
-        return reply(session, false);
-    for (; at < had; at++) {
-        const struct mapping *it = session->space->mappings[at];
-        if (it->guest == region.guest_phys_addr && it->user == region.user_addr && it->size == region.memory_size)
-            break;
+    struct mapping *there = region_of_call(session, &region, &listening);
+    if (there == NULL)
+        return reply(session, log_why(session, "%s", log_rule(COVRETIN_QUEUE_NO_SUCH_REGION)));
+    if (there->again != 0) {
+        there->again--;
+        return reply(session, true);
     }
-    if (at == had)
-        return reply(session, false);
-    change.regions[0] = seen_of(session->space->mappings[at]);
-    return reply(session, use_regions(session, space_new(session->space, at, NULL, 0), &change));
+    change.regions[0] = seen_of(there);
+    return reply(session, use_regions(session, space_new(session->space, find_region(session, &region), NULL, 0), &change));
 }
 
 /* (a refusal ends the session: this call has a reply of its own) */
@@ -264,45 +310,73 @@ static enum covretin_error set_log_base(struct session *session)
     covretin_region log;
     mapping_release(session->log);
     session->log = NULL;
-    if (covretin_call_log(&session->frontend.backend, &log) == COVRETIN_OK)
-        session->log = mapping_new(&session->holder, log.fd, log.mmap_offset, log.memory_size);
-    return reply(session, session->log != NULL);
+    if (covretin_call_log(&session->frontend.backend, &log))
+        return reply(session, false);
+    session->log = mapping_new(&session->holder, log.fd, log.mmap_offset, log.memory_size);
+    return reply(session, session->log != NULL || log_file(session, REASON_THE_LOG, &log));
 }
 
 static enum covretin_error postcopy_advise(struct session *session)
 {
+    bool is_begun = session->arrival.userfault >= 0;
     session->arrival.frontend = covretin_service_fd(&session->frontend);
     if (!arrival_begin(&session->arrival))
-        return reply(session, false);
+        return reply(session, is_begun ? log_why(session, REASON_ADVISED) : log_why(session, REASON_NO_USERFAULT));
     return covretin_reply_fd(&session->frontend.backend, session->arrival.userfault);
 }
 
 static enum covretin_error postcopy_ack(struct session *session)
 {
-    return reply(session, arrival_watch(&session->arrival, session->space));
+    return reply(session, arrival_watch(&session->arrival, session->space) || log_why(session, REASON_NO_USERFAULT));
 }
 
 static enum covretin_error postcopy_end(struct session *session)
 {
+    if (session->arrival.userfault < 0)
+        log_why(session, REASON_NOT_ADVISED);
     return reply(session, arrival_end(&session->arrival, session->space));
 }
 
 /* -- Rings -- */
 
-/* The ring of a call that has a number, or NULL: the device has no such ring. */
+/* The ring of this number, or NULL: the device has no such ring. */
+static struct ring *ring_at(struct session *session, uint32_t index)
+{
+    if (index < session->calls->queues)
+        return &session->rings[index];
+    log_why(session, REASON_NO_QUEUE(session->calls->queues, index));
+    return NULL;
+}
+
+static uint32_t number_of(const struct session *session, const struct ring *ring)
+{
+    return (uint32_t)(ring - session->rings);
+}
+
+/* The ring of a call that has a number, or NULL. */
 static struct ring *ring_of(struct session *session, uint32_t *number)
 {
     uint32_t index;
-    if (covretin_call_ring(&session->frontend.backend, &index, number) || index >= session->calls->queues)
-        return NULL;
-    return &session->rings[index];
+    return covretin_call_ring(&session->frontend.backend, &index, number) ? NULL : ring_at(session, index);
+}
+
+/* The same of a call that a ring stops for, which is refused while it runs. */
+static struct ring *stopped_ring_of(struct session *session, uint32_t *number)
+{
+    struct ring *ring = ring_of(session, number);
+    if (ring == NULL || !ring->is_started)
+        return ring;
+    log_why(session, REASON_IS_STARTED(number_of(session, ring)));
+    return NULL;
 }
 
 static enum covretin_error set_vring_num(struct session *session)
 {
-    uint32_t size;
-    struct ring *ring = ring_of(session, &size);
-    if (ring == NULL || ring->is_started || size == 0 || size > COVRETIN_DEVICE_MAX_QUEUE_SIZE)
+    uint32_t size, most = session->calls->max_queue_size != 0 ? session->calls->max_queue_size : COVRETIN_DEVICE_MAX_QUEUE_SIZE;
+    struct ring *ring = stopped_ring_of(session, &size);
+    if (ring != NULL && (size == 0 || size > most))
+        return reply(session, log_why(session, REASON_WRONG_SIZE(number_of(session, ring), size, most)));
+    if (ring == NULL)
         return reply(session, false);
     ring->size = (uint16_t)size;
     return reply(session, true);
@@ -312,18 +386,19 @@ static enum covretin_error set_vring_addr(struct session *session)
 {
     covretin_vring place;
     uint32_t index;
-    if (covretin_call_vring(&session->frontend.backend, &index, &place) || index >= session->calls->queues)
+    struct ring *ring = covretin_call_vring(&session->frontend.backend, &index, &place) ? NULL : ring_at(session, index);
+    if (ring == NULL)
         return reply(session, false);
-    session->rings[index].place = place;
-    ring_move(session, &session->rings[index]);
+    ring->place = place;
+    ring_move(session, ring);
     return reply(session, true);
 }
 
 static enum covretin_error set_vring_base(struct session *session)
 {
     uint32_t base;
-    struct ring *ring = ring_of(session, &base);
-    if (ring == NULL || ring->is_started)
+    struct ring *ring = stopped_ring_of(session, &base);
+    if (ring == NULL)
         return reply(session, false);
     ring->base = base;
     ring->has_base = true;
@@ -340,7 +415,7 @@ static enum covretin_error get_vring_base(struct session *session)
     if (ring->is_started && covretin_queue_base(&ring->queue, &ring->base) == COVRETIN_QUEUE_OK)
         ring->has_base = true;
     ring_stop(session, ring);
-    return covretin_reply_ring(&session->frontend.backend, (uint32_t)(ring - session->rings), ring->base);
+    return covretin_reply_ring(&session->frontend.backend, number_of(session, ring), ring->base);
 }
 
 static enum covretin_error set_vring_enable(struct session *session)
@@ -365,9 +440,9 @@ static bool is_kind(int fd, const char *kind)
 /* The kick that a ring has, or has no more. What is no eventfd stays the library's to close. */
 static bool take_kick(struct session *session, struct ring *ring, int32_t fd)
 {
-    struct epoll_event kicked = {.events = EPOLLIN, .data.u32 = (uint32_t)(ring - session->rings)};
+    struct epoll_event kicked = {.events = EPOLLIN, .data.u32 = number_of(session, ring)};
     if (fd >= 0 && (!is_kind(fd, "anon_inode:[eventfd]") || epoll_ctl(session->polled, EPOLL_CTL_ADD, fd, &kicked)))
-        return false;
+        return log_why(session, REASON_NO_EVENTFD);
     if (fd >= 0 && covretin_claim_call_fd(&session->frontend, fd)) {
         epoll_ctl(session->polled, EPOLL_CTL_DEL, fd, NULL);
         return false;
@@ -395,7 +470,9 @@ static bool take_bell(struct session *session, struct bell *bell, int32_t fd)
 {
     bool is_eventfd = fd >= 0 && is_kind(fd, "anon_inode:[eventfd]");
     struct bell taken = is_eventfd ? (struct bell){.fd = fd} : other_bell(session, fd);
-    if (fd >= 0 && (taken.fd < 0 || (!taken.is_pipe && covretin_claim_call_fd(&session->frontend, fd))))
+    if (fd >= 0 && taken.fd < 0)
+        return session->calls->calls_by_pipe ? log_why(session, REASON_NO_SIGNAL) : log_why(session, REASON_NO_EVENTFD);
+    if (fd >= 0 && !taken.is_pipe && covretin_claim_call_fd(&session->frontend, fd))
         return false;
     bell_close(bell);
     *bell = taken;
@@ -418,16 +495,19 @@ static uint8_t *inflight_of(const struct session *session, uint32_t index)
     return session->inflight->at + index * size;
 }
 
+/* The ring of a call that brings a descriptor, or NULL. */
+static struct ring *ring_and_fd(struct session *session, uint32_t *index, int32_t *fd)
+{
+    return covretin_call_ring_fd(&session->frontend.backend, index, fd) ? NULL : ring_at(session, *index);
+}
+
 /* The kick begins the ring. */
 static enum covretin_error set_vring_kick(struct session *session)
 {
     uint32_t index;
     int32_t fd;
-    struct ring *ring;
-    if (covretin_call_ring_fd(&session->frontend.backend, &index, &fd) || index >= session->calls->queues)
-        return reply(session, false);
-    ring = &session->rings[index];
-    if (!take_kick(session, ring, fd))
+    struct ring *ring = ring_and_fd(session, &index, &fd);
+    if (ring == NULL || !take_kick(session, ring, fd))
         return reply(session, false);
     ring->is_due = true;
     if (ring->is_started)
@@ -440,11 +520,8 @@ static enum covretin_error set_bell(struct session *session, bool is_call)
 {
     uint32_t index;
     int32_t fd;
-    struct ring *ring;
-    if (covretin_call_ring_fd(&session->frontend.backend, &index, &fd) || index >= session->calls->queues)
-        return reply(session, false);
-    ring = &session->rings[index];
-    return reply(session, take_bell(session, is_call ? &ring->call : &ring->error, fd));
+    struct ring *ring = ring_and_fd(session, &index, &fd);
+    return reply(session, ring != NULL && take_bell(session, is_call ? &ring->call : &ring->error, fd));
 }
 
 static enum covretin_error set_vring_call(struct session *session)
@@ -466,13 +543,13 @@ static bool map_inflight(struct session *session, const covretin_inflight *told,
     struct mapping *mapping;
     for (uint32_t i = 0; i < session->calls->queues; i++)
         if (session->rings[i].is_started)
-            return false;
+            return log_why(session, REASON_IS_STARTED(i));
     if (told->num_queues == 0 || told->num_queues > session->calls->queues || told->queue_size == 0 ||
         told->queue_size > COVRETIN_DEVICE_MAX_QUEUE_SIZE || told->mmap_offset % 64 != 0 || told->mmap_size < size)
-        return false;
+        return log_why(session, REASON_WRONG_INFLIGHT(told->num_queues, told->queue_size, told->mmap_size, told->mmap_offset));
     mapping = mapping_new(&session->holder, fd, told->mmap_offset, size);
     if (mapping == NULL)
-        return false;
+        return log_file(session, REASON_THE_INFLIGHT, &(covretin_region){.memory_size = size, .mmap_offset = told->mmap_offset, .fd = fd});
     mapping_release(session->inflight);
     session->inflight = mapping;
     session->inflight_queue_size = told->queue_size;
@@ -591,7 +668,7 @@ bool has_to_wait(struct session *session, uint32_t call)
 enum covretin_error answer_call(struct session *session, uint32_t call)
 {
     answer *answers = answer_of(call);
-    return answers == NULL ? reply(session, false) : answers(session);
+    return answers == NULL ? reply(session, log_why(session, REASON_UNSERVED)) : answers(session);
 }
 
 int answer_other(void *context, uint32_t request, const uint8_t *bytes, size_t len, const int32_t *fds, size_t count)

@@ -294,20 +294,27 @@ static uint64_t page_of(int fd)
 }
 
 /* Nothing is asked of what is no memory file: whoever serves its file system may not reply. */
-static bool has_bytes(int fd, uint64_t offset, uint64_t size)
+static bool look_at(int fd, struct stat *file)
 {
-    struct stat file;
-    if (size == 0 || fcntl(fd, F_GET_SEALS) < 0 || fstat(fd, &file) || file.st_size < 0)
-        return false;
-    return offset <= (uint64_t)file.st_size && size <= (uint64_t)file.st_size - offset;
+    return fcntl(fd, F_GET_SEALS) >= 0 && fstat(fd, file) == 0 && file->st_size >= 0;
+}
+
+static bool has_bytes(const struct stat *file, uint64_t offset, uint64_t size)
+{
+    return size != 0 && offset <= (uint64_t)file->st_size && size <= (uint64_t)file->st_size - offset;
 }
 
 struct mapping *mapping_new(struct holder *holder, int fd, uint64_t offset, uint64_t size)
 {
-    struct mapping *mapping = holder->share->count <= MOST_MAPPED && has_bytes(fd, offset, size) ? calloc(1, sizeof *mapping) : NULL;
+    struct stat file;
+    bool may_be = holder->share->count <= MOST_MAPPED && look_at(fd, &file) && has_bytes(&file, offset, size);
+    struct mapping *mapping = may_be ? calloc(1, sizeof *mapping) : NULL;
     uint64_t page, into;
     if (mapping == NULL)
         return NULL;
+    mapping->offset = offset;
+    mapping->device = file.st_dev;
+    mapping->file = file.st_ino;
     page = page_of(fd);
     into = offset % page;
     mapping->all_size = (size_t)((into + size + page - 1) / page * page);
@@ -328,6 +335,13 @@ struct mapping *mapping_new(struct holder *holder, int fd, uint64_t offset, uint
     munmap(mapping->all, mapping->all_size);
     free(mapping);
     return NULL;
+}
+
+bool mapping_is_of(const struct mapping *mapping, int fd, uint64_t offset, uint64_t size)
+{
+    struct stat file;
+    return look_at(fd, &file) && file.st_dev == mapping->device && file.st_ino == mapping->file && mapping->offset == offset &&
+           mapping->size == size;
 }
 
 void mapping_release(struct mapping *mapping)

@@ -12,6 +12,7 @@
 
 #include <pthread.h>
 #include <stdatomic.h>
+#include <sys/types.h>
 
 /* Whose mappings they are: that one of them is lost, and an eventfd that says so. */
 struct holder {
@@ -35,6 +36,10 @@ struct mapping {
     size_t all_size;
     uint8_t *at; /* the part */
     uint64_t size, guest, user; /* of a region, where the guest has it, and the frontend */
+    uint64_t offset;            /* where it begins in its file, which is this: */
+    dev_t device;
+    ino_t file;
+    unsigned again;             /* how often its region was given once more, and not taken back */
     bool is_watched;            /* its page faults go to the frontend */
     struct guarded *guarded;
     struct share *share;
@@ -44,6 +49,9 @@ struct mapping {
 /* Maps so many bytes of a memory file, which has to have them, and guards them. NULL: it could not, or the holder has its share. The
  * descriptor is needed no longer. */
 struct mapping *mapping_new(struct holder *holder, int fd, uint64_t offset, uint64_t size);
+
+/* Whether it is of this part of this file. */
+bool mapping_is_of(const struct mapping *mapping, int fd, uint64_t offset, uint64_t size);
 
 /* One that uses it does no longer. NULL is none. What takes long to unmap is unmapped by a thread: where pages were touched the system
  * looks at each. */

@@ -4,6 +4,7 @@
 #endif
 
 #include "covretin_device_session.h"
+#include "covretin_reasons.h"
 #include "covretin_transport.h"
 
 #include <errno.h>
@@ -27,9 +28,13 @@ static uint16_t read16(uint64_t at)
     return __atomic_load_n((const uint16_t *)(uintptr_t)at, __ATOMIC_ACQUIRE);
 }
 
+/* (most are all of these, which is one instruction) */
 static void write_bytes(uint64_t at, uint64_t value, uint64_t len)
 {
-    memcpy((void *)(uintptr_t)at, &value, len < sizeof value ? (size_t)len : sizeof value);
+    if (len >= sizeof value)
+        memcpy((void *)(uintptr_t)at, &value, sizeof value);
+    else
+        memcpy((void *)(uintptr_t)at, &value, (size_t)len);
 }
 
 /* Sets the bits of these pages. Where all of a byte or of a word are set it is not read: whoever collects them exchanges it for 0. */
@@ -98,6 +103,17 @@ static uint64_t find_used(struct ring *ring)
     return index.addr + 2;
 }
 
+static bool not_to_start(struct session *session, const struct ring *ring, const char *rule)
+{
+    log_why(session, REASON_NOT_TO_START(ring - session->rings, rule));
+    return false;
+}
+
+static bool starts(struct session *session, const struct ring *ring, enum covretin_queue_error error)
+{
+    return error == COVRETIN_QUEUE_OK || not_to_start(session, ring, log_rule(error));
+}
+
 static bool start_split(struct session *session, struct ring *ring)
 {
     uint64_t index = find_used(ring);
@@ -109,19 +125,27 @@ static bool start_split(struct session *session, struct ring *ring)
                               .event_idx = (session->features & COVRETIN_DEVICE_EVENT_IDX) != 0,
                               .indirect_desc = (session->features & COVRETIN_DEVICE_INDIRECT_DESC) != 0};
     if (index == 0)
-        return false;
+        return not_to_start(session, ring, REASON_NOWHERE);
     at.next_used = read16(index);
     if (ring->inflight != NULL) {
         if (!inflight_recover_split(ring, at.next_used))
-            return false;
+            return not_to_start(session, ring, REASON_NO_INFLIGHT);
         at.next_avail = (uint16_t)(at.next_used + ring->again_count);
     }
-    return covretin_queue_start_split(&ring->queue, &at) == COVRETIN_QUEUE_OK;
+    return starts(session, ring, covretin_queue_start_split(&ring->queue, &at));
+}
+
+/* Where both places of a packed ring are, and their wrap counters: at first these are 1. Some, as DPDK's virtio_user, say the one of what is available
+ * alone, as of a split ring: since nothing is under way the other is the same. */
+static uint32_t packed_base(const struct ring *ring)
+{
+    uint32_t base = ring->has_base ? ring->base : 0x8000;
+    return base >> 16 != 0 ? base : base << 16 | base;
 }
 
 static bool start_packed(struct session *session, struct ring *ring)
 {
-    uint32_t base = ring->has_base ? ring->base : 0x80008000; /* the first places, and both wrap counters are 1 */
+    const uint32_t base = packed_base(ring);
     covretin_packed_ring at = {.desc_ring = ring->place.desc_table_addr,
                                .driver_event = ring->place.avail_ring_addr,
                                .device_event = ring->place.used_ring_addr,
@@ -132,10 +156,10 @@ static bool start_packed(struct session *session, struct ring *ring)
                                .indirect_desc = (session->features & COVRETIN_DEVICE_INDIRECT_DESC) != 0};
     if (ring->inflight != NULL) {
         if (!inflight_recover_packed(ring, at.used))
-            return false;
+            return not_to_start(session, ring, REASON_NO_INFLIGHT);
         at.avail = at.used = ring->used_place; /* what is taken again lies between */
     }
-    return covretin_queue_start_packed(&ring->queue, &at) == COVRETIN_QUEUE_OK;
+    return starts(session, ring, covretin_queue_start_packed(&ring->queue, &at));
 }
 
 /* The ring is mapped in the session's regions as they are now. */
@@ -160,7 +184,9 @@ bool ring_start(struct session *session, struct ring *ring)
     ring->is_packed = (session->features & COVRETIN_DEVICE_RING_PACKED) != 0;
     ring->available = 0;
     forget_again(ring);
-    if (session->space == NULL || !(ring->is_packed ? start_packed(session, ring) : start_split(session, ring))) {
+    if (session->space == NULL)
+        return not_to_start(session, ring, REASON_NO_MEMORY);
+    if (!(ring->is_packed ? start_packed(session, ring) : start_split(session, ring))) {
         forget_again(ring);
         return false;
     }
@@ -232,21 +258,84 @@ static enum covretin_queue_error look(struct ring *ring)
     return covretin_queue_available(&ring->queue, ring->shown, &ring->available);
 }
 
-/* The next descriptor of the chain, which is at this place; or one that was read, whose rest comes. A packed ring's is kept in the
- * inflight region, or was before a crash. */
-static enum covretin_queue_error read_descriptor(struct ring *ring, covretin_range place, bool is_kept, bool again,
-                                                 covretin_descriptor *descriptor)
+/* Reads 16 bytes of the guest's, none of them twice. */
+static void read_once(covretin_descriptor *to, uint64_t at)
+{
+    memcpy(to, (const void *)(uintptr_t)at, sizeof *to);
+    __asm__("" : "+m"(*to));
+}
+
+enum { COPIES = 64, NEXT = 1, INDIRECT = 4 };
+
+/* Copies descriptors from where the chain goes on, as many as there is room for: of a split ring's chain, */
+static size_t copy_linked(const covretin_table *table, covretin_descriptor *copies)
+{
+    const size_t entries = table->range.len / sizeof *copies;
+    size_t count = 0, at = table->next;
+    while (at < entries && count < COPIES) {
+        covretin_descriptor *to = &copies[count++];
+        read_once(to, table->range.addr + at * sizeof *to);
+        at = (to->third & (NEXT | INDIRECT)) == NEXT ? to->fourth : entries;
+    }
+    return count;
+}
+
+/* and of a packed one's, which lie in a row, round the ring's end; or are all that an indirect table has. */
+static size_t copy_row(const covretin_table *table, bool is_indirect, covretin_descriptor *copies)
+{
+    const size_t entries = table->range.len / sizeof *copies;
+    size_t count = 0, at = table->next;
+    while (at < entries && count < COPIES) {
+        covretin_descriptor *to = &copies[count++];
+        read_once(to, table->range.addr + at * sizeof *to);
+        if (!is_indirect && (to->fourth & (NEXT | INDIRECT)) != NEXT)
+            break;
+        at++;
+        if (!is_indirect && at == entries)
+            at = 0;
+    }
+    return count;
+}
+
+/* Follows the chain to its end, by copies of its descriptors. */
+static enum covretin_queue_error follow(struct session *session, struct ring *ring, uint16_t *id)
+{
+    covretin_descriptor copies[COPIES];
+    covretin_walked walked;
+    bool is_indirect = false;
+    enum covretin_queue_error error = covretin_queue_table(&ring->queue, &walked.table);
+    session->segment_count = 0;
+    while (!error && walked.table.goes_on) {
+        size_t count = ring->is_packed ? copy_row(&walked.table, is_indirect, copies) : copy_linked(&walked.table, copies);
+        size_t room = COVRETIN_DEVICE_MAX_QUEUE_SIZE - session->segment_count;
+        error = covretin_queue_walk(&ring->queue, copies, count, &session->segments[session->segment_count], room, &walked);
+        if (error)
+            return error;
+        session->segment_count += walked.count;
+        if (walked.taken < count)
+            return COVRETIN_QUEUE_CHAIN_TOO_LONG;
+        if (ring->is_packed && !is_indirect) {
+            *id = copies[count - 1].third;
+            is_indirect = (copies[count - 1].fourth & INDIRECT) != 0;
+        }
+    }
+    return error;
+}
+
+/* The next descriptor of a packed ring's chain, which is at this place and is kept in the inflight region, or was before a crash; or one that
+ * was read, whose rest comes. */
+static enum covretin_queue_error read_kept(struct ring *ring, covretin_range place, bool is_kept, bool again, covretin_descriptor *descriptor)
 {
     if (place.len == 0)
         return COVRETIN_QUEUE_OK;
     if (is_kept && again)
         return inflight_kept(ring, descriptor) ? COVRETIN_QUEUE_OK : COVRETIN_QUEUE_INVALID_INFLIGHT;
-    memcpy(descriptor, (const void *)(uintptr_t)place.addr, sizeof *descriptor);
+    read_once(descriptor, place.addr);
     return !is_kept || inflight_keep(ring, descriptor) ? COVRETIN_QUEUE_OK : COVRETIN_QUEUE_TOO_MANY_AVAILABLE;
 }
 
-/* Reads the descriptors of the chain that is followed, to its end. */
-static enum covretin_queue_error follow(struct session *session, struct ring *ring, uint16_t *id, bool again)
+/* The same of a packed ring that has an inflight region, by one descriptor a call: each is kept before it is looked at. */
+static enum covretin_queue_error follow_kept(struct session *session, struct ring *ring, uint16_t *id, bool again)
 {
     covretin_descriptor descriptor = {0};
     bool is_indirect = false;
@@ -259,17 +348,24 @@ static enum covretin_queue_error follow(struct session *session, struct ring *ri
             return error;
         if (session->segment_count == COVRETIN_DEVICE_MAX_QUEUE_SIZE)
             return COVRETIN_QUEUE_CHAIN_TOO_LONG;
-        error = read_descriptor(ring, place, ring->is_packed && ring->inflight != NULL && !is_indirect, again, &descriptor);
+        error = read_kept(ring, place, !is_indirect, again, &descriptor);
         if (error)
             return error;
         error = covretin_queue_step(&ring->queue, &descriptor, &session->segments[session->segment_count], &found);
         if (error)
             return error;
-        if (ring->is_packed && !is_indirect)
+        if (!is_indirect)
             *id = descriptor.third;
         is_indirect = is_indirect || !found;
         session->segment_count += found;
     }
+}
+
+/* Reads the descriptors of the chain that is followed, to its end. */
+static enum covretin_queue_error read_chain(struct session *session, struct ring *ring, uint16_t *id, bool again)
+{
+    bool is_kept = ring->is_packed && ring->inflight != NULL;
+    return is_kept ? follow_kept(session, ring, id, again) : follow(session, ring, id);
 }
 
 static enum covretin_queue_error take_head(struct ring *ring, uint16_t *id)
@@ -292,7 +388,7 @@ static enum covretin_queue_error take_again(struct session *session, struct ring
     *id = ring->again[ring->again_at++].head;
     ring->kept = (struct kept){.head = *id, .behind = *id};
     error = ring->is_packed ? covretin_queue_resubmit_packed(&ring->queue) : covretin_queue_resubmit(&ring->queue, *id);
-    return error ? error : follow(session, ring, id, true);
+    return error ? error : read_chain(session, ring, id, true);
 }
 
 /* The next request, whose segments are the session's then. NOTHING_AVAILABLE: there is none. */
@@ -311,7 +407,7 @@ static enum covretin_queue_error take(struct session *session, struct ring *ring
     if (!ring->is_packed)
         error = take_head(ring, id);
     if (!error)
-        error = follow(session, ring, id, false);
+        error = read_chain(session, ring, id, false);
     if (!error && ring->is_packed && ring->inflight != NULL)
         inflight_take_kept(ring);
     return error;
@@ -377,12 +473,19 @@ void ring_kicked(const struct session *session, struct ring *ring)
     ring->is_quick = session->calls->busy_poll_us != 0 && is_soon(session, ring->empty, time_now());
 }
 
+/* Whether an empty ring may be looked at by this thread: where there is one processor alone, not while the device has a request of it, since
+ * whoever serves that has no other. */
+static bool may_look(const struct session *session, const struct ring *ring)
+{
+    return ring->is_quick && (ring->out == 0 || !session->is_on_one_processor);
+}
+
 /* The ring is empty. Whether it is to be served on. */
 static bool is_to_go_on(const struct session *session, struct ring *ring)
 {
     if (session->calls->busy_poll_us != 0)
         ring->empty = time_now();
-    ring->is_quiet = ring->is_quick && ask_for_kicks(session, ring, false);
+    ring->is_quiet = may_look(session, ring) && ask_for_kicks(session, ring, false);
     return !ring->is_quiet && wait_for_kicks(session, ring);
 }
 
@@ -435,30 +538,73 @@ bool rings_busy_poll(struct session *session)
 
 /* -- Requests -- */
 
-static struct taken *taken_new(struct session *session, struct ring *ring, uint16_t id, bool again)
+enum { KEPT_SEGMENTS = 4, MOST_KEPT = 2 * COVRETIN_DEVICE_BURST };
+
+/* What holds a request of so many segments. Those of few are kept for the next ones, since most requests have few. */
+static struct taken *taken_find(struct session *session, size_t count)
 {
-    size_t count = session->segment_count, parts_at = sizeof(struct taken) + count * sizeof(struct iovec);
-    struct taken *taken = malloc(parts_at + count * sizeof(struct part));
+    struct taken *taken = session->spare;
+    const size_t room = count > KEPT_SEGMENTS ? count : KEPT_SEGMENTS;
+    if (taken != NULL && room == KEPT_SEGMENTS) {
+        session->spare = taken->next;
+        session->spare_count--;
+        return taken;
+    }
+    taken = malloc(sizeof *taken + room * (sizeof(struct iovec) + sizeof(struct part)));
     if (taken == NULL)
         return NULL;
-    /* (of the regions as they are now, which a ring that was not found anew need not lie in) */
-    *taken = (struct taken){.session = session, .space = session->space, .id = id, .kept = ring->kept};
-    taken->request = (covretin_request){.segments = taken->segments, .queue = (uint32_t)(ring - session->rings), .again = again};
-    taken->parts = (struct part *)(void *)((uint8_t *)taken + parts_at);
+    taken->session = session;
+    taken->room = (uint16_t)room;
+    taken->parts = (struct part *)(void *)&taken->segments[room];
+    return taken;
+}
+
+void taken_drop(struct session *session, struct taken *taken)
+{
+    if (taken->room != KEPT_SEGMENTS || session->spare_count == MOST_KEPT) {
+        free(taken);
+        return;
+    }
+    taken->next = session->spare;
+    session->spare = taken;
+    session->spare_count++;
+}
+
+void taken_free_kept(struct session *session)
+{
+    while (session->spare != NULL) {
+        struct taken *taken = session->spare;
+        session->spare = taken->next;
+        free(taken);
+    }
+}
+
+static struct taken *taken_new(struct session *session, struct ring *ring, uint16_t id, bool again)
+{
+    const size_t count = session->segment_count;
+    struct taken *taken = taken_find(session, count);
+    if (taken == NULL)
+        return NULL;
+    taken->space = session->space; /* (of the regions as they are now, which a ring that was not found anew need not lie in) */
+    taken->id = id;
+    taken->kept = ring->kept;
+    taken->part_count = 0;
     for (size_t i = 0; i < count; i++) {
         const covretin_segment *segment = &session->segments[i];
         taken->segments[i] = (struct iovec){(void *)(uintptr_t)segment->range.addr, (size_t)segment->range.len};
         if (segment->writable)
-            taken->parts[taken->request.writable++] = (struct part){segment->guest_addr, segment->range.len};
-        else
-            taken->request.readable++;
+            taken->parts[taken->part_count++] = (struct part){segment->guest_addr, segment->range.len};
     }
-    taken->part_count = taken->request.writable;
+    taken->request = (covretin_request){.segments = taken->segments,
+                                        .readable = count - taken->part_count,
+                                        .writable = taken->part_count,
+                                        .queue = (uint32_t)(ring - session->rings),
+                                        .again = again};
     return taken;
 }
 
 /* The request is the device's. It is counted before that has it, who may be done with it at once. NULL: the session ends. */
-static struct taken *count_out(struct session *session, struct ring *ring, uint16_t id, bool again)
+static covretin_request *count_out(struct session *session, struct ring *ring, uint16_t id, bool again)
 {
     struct taken *taken = taken_new(session, ring, id, again);
     if (taken == NULL) {
@@ -471,16 +617,18 @@ static struct taken *count_out(struct session *session, struct ring *ring, uint1
     taken->space->users++;
     ring->out++;
     session->out++;
-    return taken;
+    return &taken->request;
 }
 
-static void hand_out(struct session *session, struct ring *ring, uint16_t id, bool again)
+static void hand_out(struct session *session, covretin_request *const *requests, size_t count)
 {
-    struct taken *taken = count_out(session, ring, id, again);
-    if (taken == NULL)
+    if (count == 0)
         return;
     pthread_mutex_unlock(&session->lock);
-    session->calls->request(session->own, &taken->request);
+    if (session->calls->requests != NULL)
+        session->calls->requests(session->own, requests, count);
+    else
+        session->calls->request(session->own, requests[0]);
     pthread_mutex_lock(&session->lock);
 }
 
@@ -503,23 +651,57 @@ static bool is_taken_of(const struct session *session, const struct ring *ring)
     return session->calls->taken_queues >> (ring - session->rings) & 1;
 }
 
-covretin_request *ring_take(struct session *session, struct ring *ring)
+/* What was taken of a ring at once, */
+struct burst {
+    covretin_request *requests[COVRETIN_DEVICE_BURST];
+    size_t count;
+    enum covretin_queue_error error; /* and why no more was */
+    bool is_over;                    /* the part of the turn is */
+};
+
+/* Takes a request, and says why there is none. Where memory of the session is lost there is none: what was read may be zeros that nobody wrote. */
+static covretin_request *take_one(struct session *session, struct ring *ring, enum covretin_queue_error *error)
 {
     uint16_t id = 0;
     bool again;
-    enum covretin_queue_error error;
+    *error = take(session, ring, &id, &again);
+    return *error || session->holder.has_lost ? NULL : count_out(session, ring, id, again);
+}
+
+size_t ring_take(struct session *session, struct ring *ring, covretin_request **requests, size_t most)
+{
+    enum covretin_queue_error error = COVRETIN_QUEUE_OK;
+    size_t count = 0;
     if (!is_taken_of(session, ring) || !ring_is_running(session, ring) || session->why != COVRETIN_OK || session->is_stopped)
-        return NULL;
-    error = take(session, ring, &id, &again);
-    /* (whose input waits for a request hears of the next one by its kick) */
-    if (error == COVRETIN_QUEUE_NOTHING_AVAILABLE && session->calls->input_ready != NULL && wait_for_kicks(session, ring))
-        error = take(session, ring, &id, &again);
+        return 0;
+    while (count < most) {
+        requests[count] = take_one(session, ring, &error);
+        /* (whose input waits for a request hears of the next one by its kick) */
+        if (error == COVRETIN_QUEUE_NOTHING_AVAILABLE && count == 0 && session->calls->input_ready != NULL && wait_for_kicks(session, ring))
+            requests[count] = take_one(session, ring, &error);
+        if (requests[count] == NULL)
+            break;
+        count++;
+    }
     if (error && error != COVRETIN_QUEUE_NOTHING_AVAILABLE) {
         ring->is_broken = ring->is_due = true; /* ring_serve tells that: nothing is called back from here */
         ring->broken_by = error;
     }
-    struct taken *taken = error || session->holder.has_lost ? NULL : count_out(session, ring, id, again);
-    return taken != NULL ? &taken->request : NULL;
+    return count;
+}
+
+/* Takes as many requests as the device gets at once. */
+static void take_burst(struct session *session, struct ring *ring, struct burst *burst)
+{
+    const size_t most = session->calls->requests != NULL ? COVRETIN_DEVICE_BURST : 1;
+    burst->count = 0;
+    do {
+        burst->requests[burst->count] = take_one(session, ring, &burst->error);
+        burst->is_over = part_is_over(session, LOOK_AFTER / 8 + (unsigned)session->segment_count);
+        if (burst->requests[burst->count] == NULL)
+            return;
+        burst->count++;
+    } while (burst->count < most && !burst->is_over);
 }
 
 bool ring_serve(struct session *session, struct ring *ring)
@@ -529,22 +711,20 @@ bool ring_serve(struct session *session, struct ring *ring)
         break_ring(session, ring, ring->broken_by);
     if (is_taken_of(session, ring))
         return true;
-    for (unsigned done = 0; ring_is_running(session, ring) && session->why == COVRETIN_OK && !session->is_stopped; done++) {
-        uint16_t id = 0;
-        bool again, is_over;
-        enum covretin_queue_error error = take(session, ring, &id, &again);
+    for (size_t done = 0; ring_is_running(session, ring) && session->why == COVRETIN_OK && !session->is_stopped;) {
+        struct burst burst;
+        take_burst(session, ring, &burst);
+        hand_out(session, burst.requests, burst.count);
         if (session->holder.has_lost)
-            return true; /* what was read may be zeros that nobody wrote */
-        if (error == COVRETIN_QUEUE_NOTHING_AVAILABLE && !is_to_go_on(session, ring))
             return true;
-        is_over = part_is_over(session, LOOK_AFTER / 8 + (unsigned)session->segment_count);
-        if (error && error != COVRETIN_QUEUE_NOTHING_AVAILABLE)
-            break_ring(session, ring, error);
-        if (!error)
-            hand_out(session, ring, id, again);
-        if (done == ring->size || is_over) {
+        if (burst.error == COVRETIN_QUEUE_NOTHING_AVAILABLE && !is_to_go_on(session, ring))
+            return true;
+        if (burst.error && burst.error != COVRETIN_QUEUE_NOTHING_AVAILABLE)
+            break_ring(session, ring, burst.error);
+        done += burst.count != 0 ? burst.count : 1;
+        if (done > ring->size || burst.is_over) {
             ring->is_due = true;
-            return !is_over;
+            return !burst.is_over;
         }
     }
     return true;
@@ -701,20 +881,57 @@ static void log_written(const struct session *session, const struct taken *taken
     }
 }
 
-void ring_give(struct session *session, struct ring *ring, const struct taken *taken, uint32_t written)
+void ring_count_in(struct session *session, struct ring *ring, size_t count)
 {
-    covretin_used used;
-    if (covretin_queue_add_used(&ring->queue, taken->id, written, &used))
+    ring->out -= count;
+    session->out -= count;
+    if (session->calls->busy_poll_us == 0 || !session->is_on_one_processor || ring->out != 0)
         return;
-    if (is_logged(session))
-        log_written(session, taken, written);
-    write_bytes(used.elem.addr, used.elem_value, used.elem.len);
-    if (ring->inflight != NULL)
-        inflight_before_used(ring, taken);
-    __atomic_store_n((uint16_t *)(uintptr_t)used.then.addr, used.then_value, __ATOMIC_RELEASE);
-    if (ring->inflight != NULL)
-        inflight_after_used(ring, taken, used.then_value);
-    log_ring(session, ring, used.elem);
-    log_ring(session, ring, used.then);
-    tell(session, ring);
+    ring->empty = time_now();
+    if (!session->is_waiting || !ring->is_quick || !ring_is_running(session, ring) || is_taken_of(session, ring))
+        return;
+    ring->is_due = true;
+    wake_up(session->holder.wake);
+}
+
+/* Shows a used entry to the driver, and all before it. */
+static void show_used(const struct session *session, const struct ring *ring, const covretin_used *used)
+{
+    __atomic_store_n((uint16_t *)(uintptr_t)used->then.addr, used->then_value, __ATOMIC_RELEASE);
+    log_ring(session, ring, used->then);
+}
+
+/* Shows the used entry of a request that is noted in an inflight region, which tells each by itself. */
+static void show_noted(const struct session *session, struct ring *ring, const struct taken *taken, const covretin_used *used)
+{
+    inflight_before_used(ring, taken);
+    show_used(session, ring, used);
+    inflight_after_used(ring, taken, used->then_value);
+}
+
+/* A driver sees no entry before what is shown last: of a split ring that is the last index, and of a packed one the flags of the first entry. */
+void ring_give(struct session *session, struct ring *ring, covretin_request *const *requests, const uint32_t *written, size_t count)
+{
+    covretin_used used, last;
+    bool has_last = false;
+    for (size_t i = 0; i < count; i++) {
+        const struct taken *taken = (const struct taken *)(const void *)requests[i];
+        if (covretin_queue_add_used(&ring->queue, taken->id, written[i], &used))
+            continue;
+        if (is_logged(session))
+            log_written(session, taken, written[i]);
+        write_bytes(used.elem.addr, used.elem_value, used.elem.len);
+        log_ring(session, ring, used.elem);
+        if (ring->inflight != NULL)
+            show_noted(session, ring, taken, &used);
+        else if (ring->is_packed && has_last)
+            show_used(session, ring, &used);
+        else
+            last = used;
+        has_last = true;
+    }
+    if (has_last && ring->inflight == NULL)
+        show_used(session, ring, &last);
+    if (has_last)
+        tell(session, ring);
 }

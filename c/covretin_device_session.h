@@ -56,17 +56,20 @@ struct ring {
     struct kept kept;             /* of the chain that is followed */
 };
 
-/* A request that the device has. */
+/* A request that the device has, or what is kept for one: then the next that is. */
 struct taken {
     covretin_request request;
     struct session *session;
-    struct space *space;
-    uint16_t id;
+    union {
+        struct space *space;
+        struct taken *next;
+    };
     struct kept kept;
-    size_t part_count;
+    uint16_t id;
+    uint16_t room, part_count; /* for so many segments, and so many parts */
     struct part {
         uint64_t guest, size;
-    } *parts; /* that are to be written */
+    } *parts; /* that are to be written, behind the segments */
     struct iovec segments[];
 };
 
@@ -97,13 +100,18 @@ struct session {
     int polled;      /* an epoll of all that the session waits for */
     short events;    /* that are polled of the socket */
     bool is_called;  /* which may have calls */
+    bool is_waiting; /* no turn is under way */
+    bool is_on_one_processor; /* it may use no other */
     int timer;       /* for rings without a kick */
     bool is_timed;
     int stop, signals; /* an eventfd, and a signalfd, or -1 */
     atomic_bool is_stopped;
     bool is_told, is_closed;
     uint32_t last_request; /* as the frontend numbers it */
-    char detail[160];      /* why the call that is served is refused, where that is known */
+    bool has_counted;      /* its refusal, which is to be told still */
+    bool is_refused;       /* the call that is served, also where its reply says so and it is no error of the session's */
+    bool is_cut;           /* the last request ended amid its body */
+    char detail[256];      /* why the call that is served is refused, where that is known and somebody listens */
     uint64_t ends_at;    /* when this turn is to end, in nanoseconds, */
     uint64_t part_ends;  /* and the part of it that is done, calls or rings; */
     unsigned since_look; /* how much of that was done since the time was looked at, */
@@ -112,6 +120,8 @@ struct session {
     int empty; /* a file of no bytes */
     covretin_segment segments[COVRETIN_DEVICE_MAX_QUEUE_SIZE]; /* of the chain that is followed */
     size_t segment_count;
+    struct taken *spare; /* what is kept for requests of few segments, */
+    size_t spare_count;  /* and of how many */
 };
 
 /* How long calls are served in a turn, and then rings, in nanoseconds; after both no queue is polled any more. And how much is done
@@ -127,9 +137,18 @@ bool part_is_over(struct session *session, unsigned done);
 
 /* -- Saying why, where somebody listens -- */
 
-/* A request was refused; why a region was not mapped, which is said of its request then; a session ended; and a queue is broken. */
+/* Why the call that is served is refused, as a text of covretin_reasons.h: said once it is, unless another was noted before. False. */
+bool log_why(struct session *session, const char *form, ...) __attribute__((format(printf, 2, 3)));
+
+/* The same, of a file that could not be mapped, and of that of a region. False. */
+bool log_file(struct session *session, const char *what, const covretin_region *region);
+bool log_region(struct session *session, size_t at, const covretin_region *region);
+
+/* By which rule a queue refuses something. */
+const char *log_rule(enum covretin_queue_error error);
+
+/* A request was refused; a session ended; and a queue is broken. */
 void log_refused(struct session *session, uint32_t request, enum covretin_error error);
-void log_region(struct session *session, size_t at, const covretin_region *region);
 void log_ended(const struct session *session);
 void log_broken(uint32_t queue, enum covretin_queue_error error);
 
@@ -169,11 +188,19 @@ void ring_kicked(const struct session *session, struct ring *ring);
  * after which they are looked at in the next. Whether one does; not where another is due. The lock is let go of meanwhile. */
 bool rings_busy_poll(struct session *session);
 
-/* Takes the next request of a ring that the device takes of. NULL: there is none. */
-covretin_request *ring_take(struct session *session, struct ring *ring);
+/* Takes requests of a ring that the device takes of, at most so many: how many there were. */
+size_t ring_take(struct session *session, struct ring *ring, covretin_request **requests, size_t most);
 
-/* Gives a request back. */
-void ring_give(struct session *session, struct ring *ring, const struct taken *taken, uint32_t written);
+/* The device has so many requests less. Where there is one processor alone, and these were the last of a ring whose next one comes soon, the
+ * ring is looked at from now on. */
+void ring_count_in(struct session *session, struct ring *ring, size_t count);
+
+/* Gives requests of one ring back, with how many bytes were written of each. Its driver hears of all at once. */
+void ring_give(struct session *session, struct ring *ring, covretin_request *const *requests, const uint32_t *written, size_t count);
+
+/* What held a request holds none any more: it is kept for another, or freed. And all that is kept is. */
+void taken_drop(struct session *session, struct taken *taken);
+void taken_free_kept(struct session *session);
 
 /* Whether the system has what eventfds are signalled by. */
 bool signals_prepare(void);

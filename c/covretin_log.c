@@ -5,15 +5,17 @@
 #define _GNU_SOURCE
 #endif
 #include "covretin_device_session.h"
+#include "covretin_features.h"
+#include "covretin_reasons.h"
+#include "covretin_serving.h"
 
 #include <fcntl.h>
-#include <inttypes.h>
 #include <stdarg.h>
 #include <stdio.h>
 #include <sys/stat.h>
 #include <time.h>
 
-enum { MOST_LINES = 20 }; /* in a second */
+enum { MOST_LINES = 20 /* in a second */, MOST_LINE = 320 };
 
 static void (*listener)(void *own, enum covretin_level level, const char *text);
 static void *listener_own;
@@ -37,7 +39,7 @@ static bool may_come(void)
     char text[64];
     clock_gettime(CLOCK_MONOTONIC, &now);
     if (now.tv_sec != second) {
-        snprintf(text, sizeof text, "%u more lines were left out", left_out);
+        snprintf(text, sizeof text, REASON_LEFT_OUT(left_out));
         if (left_out != 0)
             listener(listener_own, COVRETIN_LEVEL_WARNING, text);
         second = now.tv_sec;
@@ -51,7 +53,7 @@ static void say(enum covretin_level level, const char *form, ...) __attribute__(
 
 static void say(enum covretin_level level, const char *form, ...)
 {
-    char text[256];
+    char text[MOST_LINE];
     va_list values;
     va_start(values, form);
     vsnprintf(text, sizeof text, form, values);
@@ -70,16 +72,20 @@ static bool has_listener(void)
 
 /* -- Requests -- */
 
-/* What a request has to be, as the tap says it, too. */
+enum { MOST_NAME = 32, MOST_TEXT = 96, HEADER = 12 };
+/* Of the flags of a header. */
+enum { VERSION_BITS = 3, REPLY_BIT = 4 };
+#define RESERVED_BITS (~(uint32_t)15)
+
+/* What a request has to be. NULL: nobody serves it. */
 static const char *const wanted[] = {
     /* generated from protocol/requests.toml: what is wanted */
     [1] = "no body and no descriptor",
     [2] = "8 bytes and no descriptor",
     [3] = "no body and no descriptor",
     [4] = "no body and no descriptor",
-    [5] = "no descriptor",
+    [5] = "1 to 32 regions, each with a size and a descriptor",
     [6] = "16 bytes, a size that is not 0, and one descriptor",
-    [7] = "no descriptor",
     [8] = "8 bytes and no descriptor",
     [9] = "40 bytes with aligned addresses and flags of 0 or 1",
     [10] = "8 bytes and no descriptor",
@@ -91,15 +97,10 @@ static const char *const wanted[] = {
     [16] = "8 bytes and no descriptor",
     [17] = "no body and no descriptor",
     [18] = "8 bytes, of which the last four are 0 or 1",
-    [19] = "no descriptor",
     [20] = "8 bytes, a number below 65536",
     [21] = "one descriptor",
-    [22] = "no descriptor",
-    [23] = "no descriptor",
     [24] = "a part of the first 4096 bytes, with as many bytes behind it as it says",
     [25] = "a part of the first 4096 bytes, with as many bytes behind it as it says",
-    [26] = "no descriptor",
-    [27] = "no descriptor",
     [28] = "no descriptor",
     [29] = "no descriptor",
     [30] = "no descriptor",
@@ -107,12 +108,9 @@ static const char *const wanted[] = {
     [32] = "24 bytes, rings that are not 0, and one descriptor",
     [33] = "one descriptor",
     [34] = "no body and no descriptor",
-    [35] = "no descriptor",
     [36] = "no body and no descriptor",
     [37] = "40 bytes and one descriptor",
     [38] = "40 bytes",
-    [39] = "no descriptor",
-    [40] = "no descriptor",
     [41] = "16 bytes, neither all 0 nor all ones",
     [42] = "8 bytes, a direction and the phase 0, and one descriptor",
     [43] = "no descriptor",
@@ -120,74 +118,221 @@ static const char *const wanted[] = {
     /* end */
 };
 
-static bool is_of_its_form(enum covretin_error error)
+static const char *const rules[] = {
+    /* generated from protocol/requests.toml: rules of a queue */
+    [1] = "a region of memory is empty, or ends beyond the addresses of 64 bits",
+    [2] = "a region of memory overlaps another",
+    [3] = "there are more than 509 regions of memory",
+    [4] = "there is no such region of memory",
+    [5] = "its size is 0, above its greatest, or of a split queue no power of two",
+    [6] = "a part of it is not aligned where it is mapped",
+    [7] = "the base of a packed ring is not in the ring",
+    [8] = "the inflight region is not that of the queue",
+    [9] = "a range does not lie in one region of guest memory",
+    [10] = "a descriptor has no bytes",
+    [11] = "a head or a next descriptor is not in its table",
+    [13] = "a chain is a loop, or has more descriptors than it may",
+    [14] = "a descriptor to be read comes after one to be written",
+    [15] = "an indirect table was not negotiated, or lies in another",
+    [16] = "a descriptor that names an indirect table goes on",
+    [17] = "the length of an indirect table is 0, or no multiple of 16",
+    [18] = "more chains are available than the queue has",
+    [19] = "a chain is made available again before it was used",
+    [20] = "the driver broke a rule before",
+    [21] = "no chain is available",
+    [22] = "no descriptor is left to be read",
+    [23] = "the device has no such chain",
+    [24] = "an allocation failed",
+    [103] = "the queue is not started",
+    [104] = "the queue has the other layout",
+    /* end */
+};
+
+/* (the text of 0 is that of each that has no name) */
+static bool is_known(uint32_t request)
 {
-    return error != COVRETIN_INVALID_MESSAGE && error != COVRETIN_INVALID_PARAM && error != COVRETIN_INCORRECT_FDS;
+    return covretin_request_text(request) != covretin_request_text(0);
+}
+
+/* What a request is called, by its number. */
+static const char *name_of(uint32_t request, char room[MOST_NAME])
+{
+    if (is_known(request))
+        return covretin_request_text(request);
+    snprintf(room, MOST_NAME, REASON_NUMBERED(request));
+    return room;
+}
+
+const char *log_rule(enum covretin_queue_error error)
+{
+    const char *rule = (size_t)error < sizeof rules / sizeof *rules ? rules[error] : NULL;
+    return rule != NULL ? rule : REASON_UNREADABLE;
+}
+
+bool log_why(struct session *session, const char *form, ...)
+{
+    va_list values;
+    if (!has_listener() || session->detail[0] != '\0')
+        return false;
+    va_start(values, form);
+    vsnprintf(session->detail, sizeof session->detail, form, values);
+    va_end(values);
+    return false;
+}
+
+/* What came of the request that came last. */
+static const struct transport_came *came_of(const struct session *session)
+{
+    return &((const struct serving *)session->frontend.opaque)->transport.seen;
+}
+
+/* Notes why a header is refused for itself. False: it is not. */
+static bool note_header(struct session *session, const struct transport_came *came)
+{
+    uint32_t flags = transport_word(came, 4), size = transport_word(came, 8);
+    if ((flags & VERSION_BITS) != 1)
+        log_why(session, REASON_OTHER_VERSION(flags & VERSION_BITS));
+    else if ((flags & RESERVED_BITS) != 0)
+        log_why(session, REASON_RESERVED_FLAGS(flags));
+    else if (size > COVRETIN_MAX_MESSAGE - HEADER)
+        log_why(session, REASON_TOO_LONG(size, COVRETIN_MAX_MESSAGE - HEADER));
+    else if ((flags & REPLY_BIT) != 0)
+        log_why(session, REASON_IS_REPLY);
+    else
+        return false;
+    return true;
+}
+
+/* What a request has to be that is known, or is none. */
+static const char *say_wanted(uint32_t request, uint32_t regions, char room[MOST_TEXT])
+{
+    const char *form = request < sizeof wanted / sizeof *wanted ? wanted[request] : REASON_KNOWN_CODE;
+    if (request != COVRETIN_CALL_SET_MEM_TABLE)
+        return form != NULL ? form : REASON_KNOWN_CODE;
+    if (regions == 0 || regions > COVRETIN_MAX_FDS)
+        snprintf(room, MOST_TEXT, REASON_NO_TABLE(COVRETIN_MAX_FDS, regions));
+    else
+        snprintf(room, MOST_TEXT, REASON_TABLE(8 + 32 * regions, regions, regions));
+    return room;
+}
+
+/* Notes what is wrong with a request, what it has to be, and what came. */
+static void note_form(struct session *session, uint32_t request, enum covretin_error error)
+{
+    const struct transport_came *came = came_of(session);
+    char room[MOST_TEXT], brought[MOST_TEXT];
+    const char *form = say_wanted(request, transport_word(came, HEADER), room);
+    size_t body = came->bytes > HEADER ? came->bytes - HEADER : 0;
+    snprintf(brought, sizeof brought, REASON_CAME(body, came->fds, came->late_fds == 0 ? "" : REASON_LATE));
+    if (error == COVRETIN_INVALID_PARAM)
+        log_why(session, REASON_WRONG_VALUE(form, brought));
+    else if (error == COVRETIN_INCORRECT_FDS)
+        log_why(session, REASON_WRONG_FDS(form, brought));
+    else
+        log_why(session, REASON_MALFORMED(form, brought));
+}
+
+/* Notes why a request was refused, where that is not noted. */
+static void note_why(struct session *session, uint32_t request, enum covretin_error error)
+{
+    bool is_unserved = request < sizeof wanted / sizeof *wanted && wanted[request] == NULL;
+    switch (error) {
+    case COVRETIN_BACKEND_INTERNAL_ERROR: log_why(session, REASON_BY_DEVICE); return;
+    case COVRETIN_FRONTEND_INTERNAL_ERROR: log_why(session, REASON_UNMAPPED_THERE); return;
+    case COVRETIN_INACTIVE_FEATURE:
+    case COVRETIN_INACTIVE_OPERATION:
+        log_why(session, REASON_NOT_ACCEPTED(name_of_feature(error == COVRETIN_INACTIVE_FEATURE, covretin_backend_inactive(&session->frontend.backend))));
+        return;
+    case COVRETIN_INVALID_OPERATION: log_why(session, is_unserved || !is_known(request) ? REASON_UNSERVED : REASON_OTHER_STATE); return;
+    case COVRETIN_INVALID_MESSAGE:
+        if (!note_header(session, came_of(session)))
+            note_form(session, request, error);
+        return;
+    default: note_form(session, request, error);
+    }
+}
+
+/* Whether a request was refused by this error, and not cut off, or kept back by the system. */
+static bool is_refusal(const struct session *session, enum covretin_error error)
+{
+    switch (error) {
+    case COVRETIN_INVALID_PARAM:
+    case COVRETIN_INVALID_OPERATION:
+    case COVRETIN_INACTIVE_FEATURE:
+    case COVRETIN_INACTIVE_OPERATION:
+    case COVRETIN_INCORRECT_FDS:
+    case COVRETIN_FRONTEND_INTERNAL_ERROR:
+    case COVRETIN_BACKEND_INTERNAL_ERROR: return true;
+    case COVRETIN_INVALID_MESSAGE: return !session->is_cut;
+    default: return false;
+    }
+}
+
+/* Whether a request ended amid its body: its header is one, and asks for more than came. */
+static bool is_cut(const struct transport_came *came)
+{
+    uint32_t flags = transport_word(came, 4), size = transport_word(came, 8);
+    bool is_header = (flags & (VERSION_BITS | RESERVED_BITS | REPLY_BIT)) == 1 && size <= COVRETIN_MAX_MESSAGE - HEADER;
+    return is_header && came->bytes < HEADER + (size_t)size;
 }
 
 void log_refused(struct session *session, uint32_t request, enum covretin_error error)
 {
-    const char *form = request < sizeof wanted / sizeof *wanted ? wanted[request] : NULL;
-    if (!has_listener())
+    char room[MOST_NAME];
+    session->is_cut = error == COVRETIN_INVALID_MESSAGE && is_cut(came_of(session));
+    if (!has_listener() || !is_refusal(session, error))
         return;
-    if (session->detail[0] != '\0')
-        say(COVRETIN_LEVEL_WARNING, "%s refused: %s", covretin_request_text(request), session->detail);
-    else if (form != NULL && !is_of_its_form(error))
-        say(COVRETIN_LEVEL_WARNING, "%s refused: it has to be %s", covretin_request_text(request), form);
-    else
-        say(COVRETIN_LEVEL_WARNING, "%s (request %" PRIu32 ") refused: %s", covretin_request_text(request), request, covretin_error_text(error));
-    session->detail[0] = '\0';
+    note_why(session, request, error);
+    say(COVRETIN_LEVEL_WARNING, REASON_REFUSED(name_of(request, room), session->detail));
 }
 
 /* Nothing is asked of what is no memory file: whoever serves its file system may not reply. */
-void log_region(struct session *session, size_t at, const covretin_region *region)
+bool log_file(struct session *session, const char *what, const covretin_region *region)
 {
     struct stat file;
-    int size = (int)sizeof session->detail;
     if (!has_listener())
-        return;
+        return false;
     if (fcntl(region->fd, F_GET_SEALS) < 0)
-        snprintf(session->detail, (size_t)size, "region %zu is no memory file (memfd, tmpfs, hugetlbfs)", at);
-    else if (fstat(region->fd, &file) == 0 && (uint64_t)file.st_size < region->mmap_offset + region->memory_size)
-        snprintf(session->detail, (size_t)size, "region %zu is %" PRIu64 " bytes at %" PRIu64 " of its file, which has %" PRId64, at,
-                 region->memory_size, region->mmap_offset, (int64_t)file.st_size);
-    else
-        snprintf(session->detail, (size_t)size, "region %zu, of %" PRIu64 " bytes, could not be mapped", at, region->memory_size);
+        return log_why(session, REASON_NO_MEMORY_FILE(what));
+    if (fstat(region->fd, &file) == 0 && (uint64_t)file.st_size < region->mmap_offset + region->memory_size)
+        return log_why(session, REASON_BEYOND_FILE(what, region->memory_size, region->mmap_offset, file.st_size));
+    return log_why(session, REASON_UNMAPPED(what, region->memory_size));
+}
+
+bool log_region(struct session *session, size_t at, const covretin_region *region)
+{
+    char what[MOST_NAME];
+    snprintf(what, sizeof what, REASON_REGION(at));
+    return log_file(session, what, region);
 }
 
 /* -- Sessions and queues -- */
 
 void log_ended(const struct session *session)
 {
-    uint32_t request = session->last_request;
-    const char *name = request != 0 ? covretin_request_text(request) : "no request";
+    char room[MOST_NAME];
+    const char *name = session->last_request != 0 ? name_of(session->last_request, room) : REASON_NO_REQUEST;
     if (!has_listener())
         return;
+    if (session->is_cut) {
+        say(COVRETIN_LEVEL_ERROR, REASON_AMID_BODY(name));
+        return;
+    }
+    if (session->why == COVRETIN_DISCONNECTED && session->last_request == 0) {
+        say(COVRETIN_LEVEL_INFO, REASON_FRONTEND_LEFT);
+        return;
+    }
     switch (session->why) {
-    case COVRETIN_DISCONNECTED: say(COVRETIN_LEVEL_INFO, "the frontend ended the session; its last request was %s", name); return;
-    case COVRETIN_STOPPED: say(COVRETIN_LEVEL_INFO, "this device was told to end the session"); return;
-    case COVRETIN_MEMORY_LOST: say(COVRETIN_LEVEL_ERROR, "the session ended: the frontend took memory away that was in use"); return;
-    case COVRETIN_PARTIAL_MESSAGE: say(COVRETIN_LEVEL_ERROR, "the session ended: the frontend went amid a header, after %s", name); return;
-    case COVRETIN_INVALID_MESSAGE: say(COVRETIN_LEVEL_ERROR, "the session ended: the frontend sent no whole message, at %s", name); return;
-    default: say(COVRETIN_LEVEL_ERROR, "this device ended the session, at %s: %s", name, covretin_error_text(session->why));
+    case COVRETIN_DISCONNECTED: say(COVRETIN_LEVEL_INFO, REASON_FRONTEND_WENT(name)); return;
+    case COVRETIN_STOPPED: say(COVRETIN_LEVEL_INFO, REASON_STOPPED); return;
+    case COVRETIN_MEMORY_LOST: say(COVRETIN_LEVEL_ERROR, REASON_MEMORY_TAKEN); return;
+    case COVRETIN_PARTIAL_MESSAGE: say(COVRETIN_LEVEL_ERROR, REASON_AMID_HEADER(name)); return;
+    default: say(COVRETIN_LEVEL_ERROR, REASON_ENDED_HERE(name, covretin_error_text(session->why)));
     }
 }
 
 void log_broken(uint32_t queue, enum covretin_queue_error error)
 {
-    static const char *const rules[] = {
-        [COVRETIN_QUEUE_NOT_IN_GUEST] = "a range does not lie in guest memory",
-        [COVRETIN_QUEUE_EMPTY_DESCRIPTOR] = "a descriptor has no bytes",
-        [COVRETIN_QUEUE_NOT_IN_TABLE] = "a head or a next descriptor is not in its table",
-        [COVRETIN_QUEUE_CHAIN_TOO_LONG] = "a chain is a loop, or has more descriptors than the queue",
-        [COVRETIN_QUEUE_READABLE_AFTER_WRITABLE] = "a descriptor to be read comes after one to be written",
-        [COVRETIN_QUEUE_UNEXPECTED_INDIRECT] = "an indirect table was not negotiated, or lies in another",
-        [COVRETIN_QUEUE_INDIRECT_GOES_ON] = "a descriptor with an indirect table goes on",
-        [COVRETIN_QUEUE_INVALID_INDIRECT_LENGTH] = "an indirect table is empty, or of no whole descriptors",
-        [COVRETIN_QUEUE_TOO_MANY_AVAILABLE] = "more chains are available than the queue has",
-        [COVRETIN_QUEUE_HEAD_IN_USE] = "a chain is made available again before it was used",
-    };
-    const char *rule = (size_t)error < sizeof rules / sizeof *rules ? rules[error] : NULL;
     if (has_listener())
-        say(COVRETIN_LEVEL_ERROR, "queue %" PRIu32 " is broken by its driver: %s", queue, rule != NULL ? rule : "it cannot be read");
+        say(COVRETIN_LEVEL_ERROR, REASON_BROKEN(queue, log_rule(error)));
 }

@@ -14,6 +14,14 @@ enum covretin_error serving_open(void **opaque, const struct serving_side *side,
     return error;
 }
 
+enum covretin_error serving_set_hook(struct serving *serving, const struct serving_hook *hook)
+{
+    if (serving == NULL)
+        return COVRETIN_NO_SESSION;
+    serving->hook = *hook;
+    return COVRETIN_OK;
+}
+
 bool serving_ended(const struct serving *serving)
 {
     return serving == NULL || serving->transport.broken;
@@ -57,6 +65,15 @@ static enum covretin_error check_request(struct serving *serving, uint32_t *call
     return error == COVRETIN_OK ? COVRETIN_NOT_YET : error;
 }
 
+/* A request is refused: whoever counts that is told before the acknowledgement is sent, or the peer is hung up on. */
+static void note_refusal(struct serving *serving, enum covretin_error error)
+{
+    serving->refusal = error;
+    transport_next(&serving->transport);
+    if (serving->hook.refused != NULL)
+        serving->hook.refused(serving->hook.context);
+}
+
 /* Receives a request, and checks it. The end of the stream is what it means where it came. */
 static enum covretin_error receive_request(struct serving *serving, uint32_t *call)
 {
@@ -67,10 +84,8 @@ static enum covretin_error receive_request(struct serving *serving, uint32_t *ca
     if (error)
         return error;
     error = check_request(serving, call);
-    if (!serving->calling) {
-        serving->refusal = error;
-        transport_next(&serving->transport);
-    }
+    if (!serving->calling)
+        note_refusal(serving, error);
     return error;
 }
 

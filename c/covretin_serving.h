@@ -6,11 +6,11 @@
 
 #include "covretin_transport.h"
 
-/* Who is given the requests that have no call of their own; NULL: nobody. */
 typedef int serving_other(void *context, uint32_t request, const uint8_t *bytes, size_t len, const int32_t *fds, size_t count);
 
 struct serving_hook {
-    serving_other *other;
+    serving_other *other;           /* is given the requests that have no call of their own; NULL: nobody */
+    void (*refused)(void *context); /* a request was refused, before its peer can know; NULL: nobody is told then */
     void *context;
 };
 
@@ -38,6 +38,9 @@ struct serving {
 /* Opens a session, and serves it over this socket: `opaque` is then what stands behind it; after an error both are as before.
  * SESSION_OPEN; what transport_check_socket returns; OUT_OF_MEMORY. */
 enum covretin_error serving_open(void **opaque, const struct serving_side *side, void *session, int socket);
+
+/* Who is called amid the calls below. NO_SESSION. */
+enum covretin_error serving_set_hook(struct serving *serving, const struct serving_hook *hook);
 
 /* Whether it is of no more use. */
 bool serving_ended(const struct serving *serving);

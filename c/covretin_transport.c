@@ -320,9 +320,8 @@ static void take_over(struct transport *transport, int fd)
         transport_close(fd);
 }
 
-/* Takes the descriptors over that were sent with a piece, and closes what the system added. Whether all are there, and no more than a
- * message has. */
-static bool gather(struct transport *transport, struct msghdr *message)
+/* Takes the descriptors over that were sent with a piece, and closes what the system added. How many were sent. */
+static size_t gather(struct transport *transport, struct msghdr *message)
 {
     struct cmsghdr *head;
     size_t sent = 0;
@@ -333,24 +332,34 @@ static bool gather(struct transport *transport, struct msghdr *message)
                 sent++;
             } else
                 transport_close(fd_in(head, i));
-    return sent <= COVRETIN_MAX_FDS && !(message->msg_flags & MSG_CTRUNC);
+    return sent;
 }
 
-/* Notes the first bytes of a message, of those that came. */
-static void note_code(struct transport *transport, size_t got)
+/* Notes what came of a message by a piece. */
+static void note(struct transport *transport, size_t got, size_t fds)
 {
-    if (got != 0 && !transport->begun)
-        transport->code_len = 0;
-    for (size_t i = 0; i < got && transport->code_len < sizeof transport->code; i++)
-        transport->code[transport->code_len++] = transport->bytes[i];
+    struct transport_came *seen = &transport->seen;
+    size_t room;
+    if (got == 0)
+        return;
+    if (!transport->begun)
+        *seen = (struct transport_came){.fds = 0};
+    room = seen->bytes < sizeof seen->head ? sizeof seen->head - seen->bytes : 0;
+    memcpy(seen->head + sizeof seen->head - room, transport->bytes, got < room ? got : room);
+    seen->bytes += got;
+    seen->fds += fds;
+    seen->late_fds += transport->begun ? fds : 0;
+}
+
+uint32_t transport_word(const struct transport_came *came, size_t at)
+{
+    const uint8_t *word = came->head + at;
+    return word[0] | (uint32_t)word[1] << 8 | (uint32_t)word[2] << 16 | (uint32_t)word[3] << 24;
 }
 
 uint32_t transport_request(const struct transport *transport)
 {
-    const uint8_t *code = transport->code;
-    if (transport->code_len < sizeof transport->code)
-        return 0;
-    return code[0] | (uint32_t)code[1] << 8 | (uint32_t)code[2] << 16 | (uint32_t)code[3] << 24;
+    return transport->seen.bytes < 4 ? 0 : transport_word(&transport->seen, 0);
 }
 
 /* Receives at most so many bytes into `bytes`. It waits where the call may; a socket that does not wait says NOT_YET all the same. */
@@ -367,9 +376,9 @@ static enum covretin_error receive_piece(struct transport *transport, size_t mos
     } while (got < 0 && errno == EINTR);
     if (got < 0)
         return reason();
-    bool has_all = gather(transport, &message);
-    note_code(transport, (size_t)got);
-    if (!has_all)
+    size_t fds = gather(transport, &message);
+    note(transport, (size_t)got, fds);
+    if (fds > COVRETIN_MAX_FDS || message.msg_flags & MSG_CTRUNC) /* not all are there, or more than a message has */
         return COVRETIN_FDS_LOST;
     if (got == 0)
         return COVRETIN_DISCONNECTED;

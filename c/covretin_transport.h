@@ -62,6 +62,13 @@ struct transport_side {
         calls##_close(session); \
     }
 
+/* What came of a message. */
+struct transport_came {
+    uint8_t head[16]; /* its first bytes, as far as they came: its header, and four of its body; those behind them are 0 */
+    size_t bytes;
+    size_t fds, late_fds; /* how many descriptors, and how many of these behind its first byte */
+};
+
 /* A message goes out whole before the next is read, so both ways use `bytes`. */
 struct transport {
     const struct transport_side *side;
@@ -78,8 +85,7 @@ struct transport {
     size_t lent_len;
     bool waits;                     /* a call without a limit of time is under way: a receive waits as the socket does */
     bool begun;                     /* the awaited message has begun to come */
-    uint8_t code[4];                /* the first bytes of the message that came last: the number of its request */
-    size_t code_len;
+    struct transport_came seen;     /* of the message that came last */
     int32_t came[COVRETIN_MAX_FDS]; /* with the piece in `bytes`, until the session receives it and keeps them */
     size_t came_count;
     bool brought; /* the session keeps descriptors of a message, until they are claimed or closed */
@@ -117,6 +123,9 @@ void transport_may_wait(struct transport *transport, bool waits);
 
 /* The number of the request that came last, as its header has it; 0: that much of it has not come. */
 uint32_t transport_request(const struct transport *transport);
+
+/* The number of four bytes of a message's head, from one on. */
+uint32_t transport_word(const struct transport_came *came, size_t at);
 
 /* Sends what is to be sent, receives the reply, and has it taken once it is there whole. What `takes` returns, or why it does not come to
  * that; NOT_YET: *events is what the socket has to be ready for. NO_SESSION: there is no transport. */

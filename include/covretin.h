@@ -22,8 +22,8 @@
  *   was given stays the caller's, who may close it once the bytes that covretin_to_send hands out with it were sent. What
  *   came from the socket is the caller's too: covretin_answer_fd and covretin_answer_inflight say which number is the
  *   reply's; all others, and all of a reply that is refused, are the caller's to close.
- * Sessions: a variable of type covretin_session, {0} at first, belongs to the caller; it is not copied or written by him.
- *   Calls with the same one must not overlap in time. Not from a signal handler.
+ * Sessions: a variable of type covretin_session, {0} at first, belongs to the caller, who does not copy it or write to it. Calls
+ *   with the same one must not overlap in time, and none may be made from a signal handler.
  *
  * ERRORS are numbers of enum covretin_error; 0 is none. What a call leaves after an error is said at the call.
  *
@@ -160,13 +160,13 @@ const char *covretin_error_text(enum covretin_error error);
 /* The version of the library, as COVRETIN_VERSION. */
 const char *covretin_version(void);
 
-/* Whose behaviour a session has where the two differ. */
+/* As whom a session behaves where the specification and the Rust crate vhost differ. */
 enum covretin_profile {
-    COVRETIN_PROFILE_STANDARD = 0, /* that of the specification, and of QEMU, DPDK and other peers; each session's at first */
-    COVRETIN_PROFILE_VHOST = 1     /* that of the Rust crate vhost */
+    COVRETIN_PROFILE_STANDARD = 0, /* as the specification says, and QEMU, DPDK and other peers do; each session begins so */
+    COVRETIN_PROFILE_VHOST = 1     /* as the Rust crate vhost does */
 };
 
-/* A session. {0} is none. */
+/* A session. {0} is not open. */
 typedef struct covretin_session {
     void *opaque;
 } covretin_session;
@@ -312,9 +312,9 @@ enum covretin_error covretin_answer_shmem(covretin_session *session, uint64_t *s
  *   SHMEM: get_shmem_config.
  */
 
-/* Whose behaviour the session has from now on, also for the answer that is awaited: COVRETIN_PROFILE_STANDARD, which it begins
- * with, or COVRETIN_PROFILE_VHOST. Nothing is sent for it, and nothing is to be taken. INVALID_PARAM: any other value; the
- * profile stays as it was. It does not return NOT_TAKEN. */
+/* Sets how the session behaves from now on, also for the answer that is awaited: by COVRETIN_PROFILE_STANDARD, with which it begins, or
+ * by COVRETIN_PROFILE_VHOST. Nothing is sent for it, and nothing is to be taken. INVALID_PARAM: any other value; the profile stays as
+ * it was. It does not return NOT_TAKEN. */
 enum covretin_error covretin_set_profile(covretin_session *session, enum covretin_profile profile);
 
 /* The flags of each request from now on: COVRETIN_NEED_REPLY, or 0. Nothing is sent for it, and nothing is to be taken.
@@ -410,7 +410,7 @@ enum covretin_error covretin_ask_postcopy_ack_mem_regions(covretin_session *sess
 /* The greatest size of what a frame carries. */
 enum covretin_error covretin_ask_set_mtu(covretin_session *session, uint16_t mtu);
 
-/* STACK, in bytes at most, with what the proved code calls but memory and copies. Written by scripts/stack.py:
+/* STACK, in bytes at most, with what the proved code calls but memory and copies. Written by scripts/check.py --write headers:
  *   20,480: take
  *   12,288: ask_add_mem_region, ask_check_device_state, ask_get_config, ask_get_config_bytes, ask_get_features,
  *        ask_get_inflight_fd, ask_get_max_mem_slots, ask_get_protocol_features, ask_get_queue_num, ask_get_shared_object,

@@ -49,8 +49,8 @@
  *   the socket is the caller's: covretin_call_.. says which number is which argument's, and names no other than came with the
  *   first byte of this request; all others, and all of a request that is refused, are the caller's to close. What a reply was
  *   given stays the caller's, who may close it once the bytes that covretin_backend_to_send hands out with it were sent.
- * Sessions: a variable of type covretin_backend, {0} at first, belongs to the caller; it is not copied or written by him.
- *   Calls with the same one must not overlap in time. Not from a signal handler.
+ * Sessions: a variable of type covretin_backend, {0} at first, belongs to the caller, who does not copy it or write to it. Calls
+ *   with the same one must not overlap in time, and none may be made from a signal handler.
  *
  * ERRORS are numbers of enum covretin_error; 0 is none. What a call leaves after an error is said at the call. Here the peer is
  * the frontend, and what covretin.h says of a reply holds of a request.
@@ -64,7 +64,7 @@
 extern "C" {
 #endif
 
-/* A backend's session. {0} is none. */
+/* A backend's session. {0} is not open. */
 typedef struct covretin_backend {
     void *opaque;
 } covretin_backend;
@@ -298,7 +298,7 @@ enum covretin_error covretin_reply_inflight(covretin_backend *backend, const cov
 /* To GET_SHMEM_CONFIG: how many regions the device has, and 256 sizes, 0 where there is no region; sizes_len is 256, else INVALID_PARAM. */
 enum covretin_error covretin_reply_shmem(covretin_backend *backend, const uint64_t *sizes, size_t sizes_len, uint32_t count);
 
-/* STACK, in bytes at most, with what the proved code calls but memory and copies. Written by scripts/stack.py:
+/* STACK, in bytes at most, with what the proved code calls but memory and copies. Written by scripts/check.py --write headers:
  *   12,288: reply_shmem
  *   8,192: backend_next, backend_open, backend_receive, reply_bases, reply_config, reply_done, reply_fd, reply_inflight,
  *        reply_number, reply_refused, reply_ring

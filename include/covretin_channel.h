@@ -36,8 +36,8 @@
  *   came from the socket is the caller's too: covretin_channel_call_fd says which number is the request's, and names no other
  *   than came with the first byte of this request; all others, all of a request that is refused, and all that come to a
  *   covretin_channel, are the caller's to close.
- * Sessions: a variable of either type, {0} at first, belongs to the caller; it is not copied or written by him. Calls with the
- *   same one must not overlap in time. Not from a signal handler.
+ * Sessions: a variable of either type, {0} at first, belongs to the caller, who does not copy it or write to it. Calls with the
+ *   same one must not overlap in time, and none may be made from a signal handler.
  *
  * ERRORS are numbers of enum covretin_error; 0 is none. What a call leaves after an error is said at the call. Of a covretin_channel
  * the peer is the frontend, and of a covretin_channel_server it is the device: what covretin.h says of a reply holds of a request
@@ -52,12 +52,12 @@
 extern "C" {
 #endif
 
-/* A device's session. {0} is none. */
+/* A device's session. {0} is not open. */
 typedef struct covretin_channel {
     void *opaque;
 } covretin_channel;
 
-/* A frontend's session. {0} is none. */
+/* A frontend's session. {0} is not open. */
 typedef struct covretin_channel_server {
     void *opaque;
 } covretin_channel_server;
@@ -243,7 +243,7 @@ enum covretin_error covretin_channel_reply_number(covretin_channel_server *serve
 /* Replies by the number of a system's error, as EINVAL, which is sent as its negative. */
 enum covretin_error covretin_channel_reply_errno(covretin_channel_server *server, int32_t number);
 
-/* STACK, in bytes at most, with what the proved code calls but memory and copies. Written by scripts/stack.py:
+/* STACK, in bytes at most, with what the proved code calls but memory and copies. Written by scripts/check.py --write headers:
  *   8,192: channel_ask_config_change, channel_ask_shared_object_add, channel_ask_shared_object_lookup,
  *        channel_ask_shared_object_remove, channel_ask_shmem_map, channel_ask_shmem_unmap, channel_receive, channel_reply_errno,
  *        channel_reply_number, channel_server_next, channel_server_receive

@@ -25,8 +25,8 @@
  * Descriptors: a session owns none, and neither opens, duplicates nor closes one: it only passes on numbers. What an ask
  *   was given stays the caller's, who may close it once the bytes that covretin_display_to_send hands out with it were sent. What
  *   came from the socket is the caller's to close: a reply has none, and one that does is refused.
- * Sessions: a variable of type covretin_display, {0} at first, belongs to the caller; it is not copied or written by him. Calls
- *   with the same one must not overlap in time. Not from a signal handler.
+ * Sessions: a variable of type covretin_display, {0} at first, belongs to the caller, who does not copy it or write to it. Calls
+ *   with the same one must not overlap in time, and none may be made from a signal handler.
  *
  * ERRORS are numbers of enum covretin_error; 0 is none. What a call leaves after an error is said at the call. The peer is the
  * display: what covretin.h says of a backend's reply holds of a display's.
@@ -54,7 +54,7 @@ extern "C" {
 /* The record of a screen's EDID, in bytes: struct virtio_gpu_resp_edid of <linux/virtio_gpu.h>. */
 #define COVRETIN_DISPLAY_EDID_SIZE 1056
 
-/* A session. {0} is none. */
+/* A session. {0} is not open. */
 typedef struct covretin_display {
     void *opaque;
 } covretin_display;
@@ -200,7 +200,7 @@ enum covretin_error covretin_display_ask_cursor_pos_hide(covretin_display *displ
 /* The cursor has a new image, of COVRETIN_DISPLAY_CURSOR_SIZE bytes, which the caller sends himself (see PIXELS). */
 enum covretin_error covretin_display_ask_cursor_update(covretin_display *display, const covretin_display_cursor_update *update);
 
-/* STACK, in bytes at most, with what the proved code calls but memory and copies. Written by scripts/stack.py:
+/* STACK, in bytes at most, with what the proved code calls but memory and copies. Written by scripts/check.py --write headers:
  *   8,192: display_ask_cursor_pos, display_ask_cursor_pos_hide, display_ask_cursor_update, display_ask_get_display_info,
  *        display_ask_get_edid, display_ask_get_protocol_features, display_ask_set_dmabuf_scanout, display_ask_set_dmabuf_scanout2,
  *        display_ask_set_protocol_features, display_ask_set_scanout, display_ask_update_dmabuf_scanout, display_ask_update_scanout,

@@ -35,6 +35,9 @@
  *             if (found) ..                                      a segment of the request; else an indirect table follows
  *         }
  *
+ * Fewer calls do the same for many chains: covretin_queue_heads_place says where many heads are read, covretin_queue_take is a pop and a walk, and
+ * covretin_queue_add_used_many gives many chains back.
+ *
  * Of a packed queue the same but for the heads: covretin_queue_available takes the flags of the next place, and reports one chain at
  * most, which is followed at once. The next descriptor is the one behind, round the ring's end, and all of an indirect table are the chain's.
  * Its id, by which it is used, is that of the last descriptor that was read before the chain's end or an indirect table. Four bytes are read
@@ -45,13 +48,13 @@
  *   not overlap. A count says how many elements its array has, and a pointer is never NULL (also where its count is 0).
  * Memory: a queue neither maps nor reads nor writes any. What it hands out stays valid only while the caller leaves the regions
  *   mapped that it gave.
- * Queues: a variable of type covretin_queue, {0} at first, belongs to the caller; it is not copied or written by him. Calls with the
- *   same one must not overlap in time; each queue has its own memory, so that a device's queues may be in threads of their own. Not
- *   from a signal handler.
+ * Queues: a variable of type covretin_queue, {0} at first, belongs to the caller, who does not copy it or write to it. Calls
+ *   with the same one must not overlap in time, and none may be made from a signal handler. Each queue has its own memory, so a
+ *   device may have its queues in threads of their own.
  *
- * ERRORS are numbers of enum covretin_queue_error; 0 is none. After an error no other argument was written, but for the segments of
- * covretin_queue_walk, which are none then. No call makes a system
- * call but for memory (malloc, free), waits for anything, or has a global state.
+ * ERRORS are numbers of enum covretin_queue_error; 0 is none. After an error no other argument was written, except for the segments of
+ * covretin_queue_walk and covretin_queue_take, which hand out none of them then, and what covretin_queue_add_used_many says of its own. No call
+ * makes a system call except for memory (malloc, free), waits for anything, or has a global state.
  */
 #ifndef COVRETIN_QUEUE_H
 #define COVRETIN_QUEUE_H
@@ -284,6 +287,11 @@ enum covretin_queue_error covretin_queue_available(covretin_queue *queue, uint16
 enum covretin_queue_error covretin_queue_head_place(covretin_queue *queue, covretin_range *place);
 enum covretin_queue_error covretin_queue_pop(covretin_queue *queue, uint16_t head);
 
+/* The same entry of a split queue's available ring, and those behind it, two bytes each: `most` at most, up to the last one that is available and up
+ * to the end of the ring. So one call says where the heads of many chains are read, which are then taken in this order; those at the ring's
+ * start are told by the next call. NOTHING_AVAILABLE, OTHER_LAYOUT. */
+enum covretin_queue_error covretin_queue_heads_place(covretin_queue *queue, size_t most, covretin_range *place);
+
 /* A split queue's head was the device's before a crash, and its chain is followed again. Errors are those of covretin_queue_pop. */
 enum covretin_queue_error covretin_queue_resubmit(covretin_queue *queue, uint16_t head);
 
@@ -313,9 +321,25 @@ enum covretin_queue_error covretin_queue_table(covretin_queue *queue, covretin_t
 enum covretin_queue_error covretin_queue_walk(covretin_queue *queue, const covretin_descriptor *copies, size_t copies_len,
                                               covretin_segment *segments, size_t segments_len, covretin_walked *walked);
 
+/* The next chain is taken, and its first descriptors were read as these: what covretin_queue_pop and then covretin_queue_walk would answer, by one
+ * call. The value is the next entry of a split queue's available ring. Of a packed queue it is the flags that covretin_queue_available takes, and
+ * NOTHING_AVAILABLE says that no chain is there; nothing changed then. The first copy is of a split queue's descriptor `value`, or of the place
+ * that the flags are of. A refusal leaves what that of the one call or of the other leaves: where a descriptor is refused, the chain was taken, and
+ * its head is the device's; otherwise no chain was taken. Errors are theirs, but for OTHER_LAYOUT. */
+enum covretin_queue_error covretin_queue_take(covretin_queue *queue, uint16_t value, const covretin_descriptor *copies, size_t copies_len,
+                                              covretin_segment *segments, size_t segments_len, covretin_walked *walked);
+
 /* The device is done with the chain of this head, or of this id, and wrote so many bytes: what is to be written. In any order of
  * chains, and from a queue that needs a reset, too. NOT_HANDED_OUT. */
 enum covretin_queue_error covretin_queue_add_used(covretin_queue *queue, uint16_t id, uint32_t len, covretin_used *used);
+
+/* The same of many chains, in this order, as if by a call for each: the n-th has the n-th id and length, and what is to be written for it is the n-th
+ * of `used`. All is written in this order; of a split queue the `then` of the last is enough, since each has the same place. *done is how many were
+ * given back, and is written after an error, too: the chains before the refused one were given back, `used` tells what is to be written for them,
+ * and the refused one changed nothing. Beyond *done nothing of `used` is to be looked at. NOT_HANDED_OUT. NO_ROOM: there are fewer lengths, or
+ * fewer places in `used`, than ids, and no chain was given back. Where there are no ids, nothing is done, and only NO_QUEUE is an error. */
+enum covretin_queue_error covretin_queue_add_used_many(covretin_queue *queue, const uint16_t *ids, size_t ids_len, const uint32_t *lens,
+                                                       size_t lens_len, covretin_used *used, size_t used_len, size_t *done);
 
 /* When the driver wants a notification: two bytes, or four of a packed queue; and that they were read as this, the last two of four as
  * flags: whether the driver is to be notified of what was used since this was last asked. Ask at least once a ring: by then the index comes
@@ -376,7 +400,7 @@ enum covretin_queue_error covretin_inflight_recover_packed(const covretin_inflig
 enum covretin_queue_error covretin_log_pages(uint64_t addr, uint64_t len, uint64_t log_size, uint64_t *first, uint64_t *end);
 void covretin_log_bit_of(uint64_t page, covretin_log_bit *bit);
 
-/* STACK, in bytes at most, with what the proved code calls but memory and copies. Written by scripts/stack.py:
+/* STACK, in bytes at most, with what the proved code calls but memory and copies. Written by scripts/check.py --write headers:
  *   1,024: inflight_recover (for each level of a sort), inflight_recover_packed (for each level of a sort)
  *   512: all others */
 

@@ -7,13 +7,16 @@
 use std::env;
 use std::fs;
 use std::path::{Path, PathBuf};
-use std::process::exit;
+use std::process::{exit, Command};
 
 fn main() {
     println!("cargo:rerun-if-env-changed=COVRETIN_LIB_DIR");
     println!("cargo:rerun-if-env-changed=DOCS_RS");
     println!("cargo:rerun-if-changed=build.rs");
-    println!("cargo:rustc-check-cfg=cfg(covretin_assembly)");
+    // (an older cargo warns of this line, and an older compiler asks for no such list)
+    if minor_of_rustc() >= 80 {
+        println!("cargo:rustc-check-cfg=cfg(covretin_assembly)");
+    }
     let folder = env::var("COVRETIN_LIB_DIR").ok().filter(|folder| !folder.is_empty());
     let chosen = match folder.as_deref() {
         _ if env::var_os("DOCS_RS").is_some() => Ok(()),
@@ -25,6 +28,13 @@ fn main() {
         eprintln!("covretin: {why}");
         exit(1);
     }
+}
+
+/// The 95 of "rustc 1.95.0 (..)".
+fn minor_of_rustc() -> u32 {
+    let rustc = env::var_os("RUSTC").unwrap_or_else(|| "rustc".into());
+    let said = Command::new(rustc).arg("--version").output().map(|ran| ran.stdout).unwrap_or_default();
+    String::from_utf8_lossy(&said).split('.').nth(1).and_then(|minor| minor.parse().ok()).unwrap_or(0)
 }
 
 /// Links the whole library that lies in a folder.

@@ -1,6 +1,6 @@
 /* SPDX-License-Identifier: Apache-2.0 */
 /* What the checks of C by a bounded model checker share: any value, what has to be reached, and what is noted beside the program: which
- * descriptors are open, which locks are held, and whether a call may wait. scripts/check_c.py runs them. */
+ * descriptors are open, which locks are held, and whether a call may wait. scripts/trust/check_c.py runs them. */
 #ifndef COVRETIN_CHECK_H
 #define COVRETIN_CHECK_H
 
@@ -48,6 +48,8 @@ extern time_t clock_end; /* how many seconds a clock has run at most */
 
 extern void *mapped_at;
 extern size_t mapped_size, unmapped;
+extern uintptr_t put_at; /* within these bytes something else may be mapped; 0: anywhere */
+extern size_t put_within;
 void nothing_is_held(void);
 
 /* -- What comes beside bytes: two control messages, each of a kind, with so many descriptors; a kind of 0: there is none. The script runs a

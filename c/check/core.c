@@ -102,3 +102,78 @@ enum covretin_error model_claim(struct model *model, int32_t fd)
     model->is_held[fd] = false;
     return COVRETIN_OK;
 }
+
+/* -- Those of each kind of session -- */
+
+#define EXPORTS(calls, of, model) \
+    enum covretin_error calls##_receive(of *session, const uint8_t *bytes, size_t bytes_len, const int32_t *fds, size_t fds_len) \
+    { \
+        (void)session; \
+        return model_receive(&(model), bytes, bytes_len, fds, fds_len); \
+    } \
+    enum covretin_error calls##_to_send(of *session, uint8_t *bytes, size_t bytes_len, int32_t *fds, size_t fds_len, size_t *byte_count, \
+                                        size_t *fd_count) \
+    { \
+        (void)session; \
+        return model_to_send(&(model), bytes, bytes_len, fds, fds_len, byte_count, fd_count); \
+    } \
+    enum covretin_error calls##_unclaimed(of *session, int32_t *fds, size_t fds_len, size_t *count) \
+    { \
+        (void)session; \
+        return model_unclaimed(&(model), fds, fds_len, count); \
+    } \
+    size_t calls##_missing(of *session) \
+    { \
+        (void)session; \
+        return model_missing(&(model)); \
+    } \
+    void calls##_close(of *session) \
+    { \
+        session->opaque = NULL; \
+    }
+
+#define ABANDONS(calls, of, model) \
+    enum covretin_error calls##_abandon(of *session) \
+    { \
+        (void)session; \
+        return model_abandon(&(model)); \
+    } \
+    enum covretin_error calls##_claim(of *session, int32_t fd) \
+    { \
+        (void)session; \
+        return model_claim(&(model), fd); \
+    }
+
+#define OPENS(calls, of) \
+    enum covretin_error calls##_open(of *session) \
+    { \
+        return model_open(&session->opaque); \
+    }
+
+static enum covretin_error model_open(void **opaque)
+{
+    static struct model any;
+    if (*opaque != NULL || any_bool())
+        return *opaque != NULL ? COVRETIN_SESSION_OPEN : COVRETIN_OUT_OF_MEMORY;
+    *opaque = &any;
+    return COVRETIN_OK;
+}
+
+EXPORTS(covretin, covretin_session, frontend_model)
+ABANDONS(covretin, covretin_session, frontend_model)
+EXPORTS(covretin_backend, covretin_backend, backend_model)
+ABANDONS(covretin_backend, covretin_backend, backend_model)
+OPENS(covretin_backend, covretin_backend)
+EXPORTS(covretin_channel, covretin_channel, channel_model)
+OPENS(covretin_channel, covretin_channel)
+EXPORTS(covretin_channel_server, covretin_channel_server, server_model)
+ABANDONS(covretin_channel_server, covretin_channel_server, server_model)
+OPENS(covretin_channel_server, covretin_channel_server)
+EXPORTS(covretin_display, covretin_display, display_model)
+OPENS(covretin_display, covretin_display)
+
+enum covretin_error covretin_open(covretin_session *session, uint64_t max_queue_num)
+{
+    (void)max_queue_num;
+    return model_open(&session->opaque);
+}

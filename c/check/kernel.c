@@ -514,6 +514,8 @@ int pthread_detach(pthread_t thread)
 
 void *mapped_at;
 size_t mapped_size, unmapped;
+uintptr_t put_at;
+size_t put_within;
 
 void *mmap(void *at, size_t size, int protection, int flags, int fd, off_t offset)
 {
@@ -521,8 +523,11 @@ void *mmap(void *at, size_t size, int protection, int flags, int fd, off_t offse
     HOLDS(size > 0 && offset >= 0, "mmap: it maps something");
     if (any_bool())
         return MAP_FAILED;
-    if (flags & MAP_FIXED)
+    if (flags & MAP_FIXED) {
+        HOLDS(put_within == 0 || ((uintptr_t)at >= put_at && size <= put_within && (uintptr_t)at - put_at <= put_within - size),
+              "mmap: only what is the caller's is put something else in the place of");
         return at;
+    }
     GIVEN(size < MOST_MAPPED_BYTES);
     mapped_size = size;
     unmapped = 0;
@@ -594,10 +599,11 @@ long syscall(long number, ...)
 ssize_t read(int fd, void *bytes, size_t size)
 {
     HOLDS(fd_is_open(fd), "read: it is open");
-    HOLDS(size == sizeof(uint64_t) && __CPROVER_w_ok(bytes, size), "read: there is room for a count");
+    HOLDS(__CPROVER_w_ok(bytes, size), "read: there is room for a count, or for a signal");
     if (fails())
         return -1;
-    *(uint64_t *)bytes = any_u64();
+    if (size == sizeof(uint64_t))
+        *(uint64_t *)bytes = any_u64();
     return (ssize_t)size;
 }
 

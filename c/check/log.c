@@ -32,8 +32,19 @@ int snprintf(char *text, size_t size, const char *form, ...)
 
 const char *covretin_request_text(uint32_t request)
 {
-    (void)request;
-    return "request";
+    return request > 44 || request == 0 ? "unknown request" : "request";
+}
+
+uint32_t transport_word(const struct transport_came *came, size_t at)
+{
+    HOLDS(at <= sizeof came->head - 4, "a number of its head");
+    return any_u32();
+}
+
+uint64_t covretin_backend_inactive(covretin_backend *backend)
+{
+    (void)backend;
+    return any_u64();
 }
 
 const char *covretin_error_text(enum covretin_error error)
@@ -61,6 +72,7 @@ static void any_listener(void *own, enum covretin_level level, const char *text)
 /* -- Checks -- */
 
 static struct session the;
+static struct serving service;
 
 void check_log(void)
 {
@@ -69,6 +81,8 @@ void check_log(void)
     lines = any_u32();
     left_out = any_u32();
     second = (time_t)any_u32();
+    service.transport.seen = (struct transport_came){.bytes = any_size(), .fds = any_size(), .late_fds = any_size()};
+    the.frontend.opaque = &service;
     the.last_request = any_u32();
     the.why = (enum covretin_error)any_int();
     if (any_bool())

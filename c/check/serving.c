@@ -127,6 +127,14 @@ static enum covretin_error any_other(void *session, const struct serving_hook *h
     return any_error();
 }
 
+static bool is_counted;
+
+static void any_refused(void *context)
+{
+    HOLDS(context == &is_counted, "its context is whoever's it is");
+    is_counted = true;
+}
+
 static struct serving_side side = {.bytes = {.missing = any_missing}, .next = any_next, .end = any_end, .claim = any_claim};
 
 /* Any service, or none. */
@@ -140,6 +148,7 @@ static struct serving *any_serving(void)
     side.other = any_other;
     the.side = &side;
     the.transport.side = &side.bytes;
+    the.hook.refused = NULL;
     return any_bool() ? &the : NULL;
 }
 
@@ -158,10 +167,14 @@ void check_serving_nowait(void)
     struct serving *it = any_serving();
     uint32_t call;
     short events;
+    const struct serving_hook hook = {NULL, any_bool() ? any_refused : NULL, &is_counted};
+    HOLDS(serving_set_hook(it, &hook) == (it != NULL ? COVRETIN_OK : COVRETIN_NO_SESSION), "who is called is told where there is a service");
+    bool had_refusal = it != NULL && it->refusal;
     enum covretin_error error =
         any_bool() ? serving_next_call_nowait(it, &call, &events) : serving_send_reply_nowait(it, &events);
     HOLDS(it != NULL || error == COVRETIN_NO_SESSION, "without a service there is no session");
     HOLDS(error == COVRETIN_NOT_YET || events == 0, "only what is not yet done is waited for");
+    HOLDS(it == NULL || !it->refusal || had_refusal || hook.refused == NULL || is_counted, "a refusal that is still to be sent was counted");
     HOLDS(serving_ended(it) || it != NULL, "none has ended");
     (void)serving_request(it);
     (void)serving_claim(it, any_int());

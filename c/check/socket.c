@@ -1,6 +1,6 @@
 /* SPDX-License-Identifier: Apache-2.0 */
 /* Checked: c/covretin_socket.c, over any transport (c/check/transport.c checks that) and any session of a frontend. */
-#include "core.h"
+#include "any_transport.h"
 
 #include "covretin_socket.c"
 
@@ -29,124 +29,27 @@ enum covretin_error covretin_answer_inflight(covretin_session *session, covretin
     return COVRETIN_OK;
 }
 
-enum covretin_error covretin_claim(covretin_session *session, int32_t fd)
-{
-    (void)session;
-    return model_claim(&frontend_model, fd);
-}
-
 enum covretin_error covretin_take(covretin_session *session)
 {
     (void)session;
     return (enum covretin_error)any_int();
 }
 
-void covretin_close(covretin_session *session)
-{
-    session->opaque = NULL;
-}
-
-/* -- Any transport -- */
+/* -- Checks -- */
 
 static struct exchange the;
 
-/* What nobody claimed is closed. */
-void transport_next(struct transport *transport)
-{
-    HOLDS(transport == &the.transport, "of this connection");
-    if (reply_fd >= 0 && reply_fd < MOST_FDS && frontend_model.is_held[reply_fd]) {
-        frontend_model.is_held[reply_fd] = false;
-        fd_gone(reply_fd);
-    }
-}
-
-void transport_close(int fd)
-{
-    if (fd >= 0)
-        fd_gone(fd);
-}
-
-void transport_close_socket(int socket, bool is_ended)
-{
-    (void)is_ended;
-    fd_gone(socket);
-}
-
-int transport_fd(const struct transport *transport)
-{
-    return transport == NULL ? -1 : 0;
-}
-
-enum covretin_error transport_connect(void **opaque, const struct transport_side *side, void *session, uint64_t rings, int socket, size_t size)
-{
-    (void)side, (void)session, (void)rings;
-    HOLDS(size == sizeof(struct exchange), "room for all that stands behind a connection");
-    if (*opaque != NULL || any_bool())
-        return COVRETIN_SESSION_OPEN;
-    fd_gone(socket); /* (it is the transport's) */
-    *opaque = &the;
-    return COVRETIN_OK;
-}
-
-void transport_disconnect(void **opaque, void *session, void (*close)(void *session))
-{
-    *opaque = NULL;
-    close(session);
-}
-
-enum covretin_error transport_exchange(struct transport *transport, transport_take *takes, void *of, int milliseconds)
-{
-    (void)milliseconds;
-    return transport == NULL ? COVRETIN_NO_SESSION : takes(of);
-}
-
-enum covretin_error transport_exchange_nowait(struct transport *transport, transport_take *takes, void *of, short *events)
-{
-    *events = 0;
-    return transport == NULL ? COVRETIN_NO_SESSION : takes(of);
-}
-
-enum covretin_error transport_address(const char *path, struct sockaddr_un *address)
-{
-    (void)path, (void)address;
-    return any_bool() ? COVRETIN_INVALID_PATH : COVRETIN_OK;
-}
-
-int64_t transport_end_of(int milliseconds)
-{
-    return milliseconds;
-}
-
-/* (signals do not come for ever before the limit) */
-int transport_left_until(int64_t end)
-{
-    static unsigned looks;
-    return looks++ >= MOST_AGAIN + 1 ? 0 : end < 0 ? -1 : any_int() & 0x7fffffff;
-}
-
-int socket(int family, int kind, int protocol)
-{
-    (void)family, (void)protocol;
-    HOLDS(kind & SOCK_CLOEXEC, "socket: it is closed by exec");
-    return any_bool() ? -1 : fd_new();
-}
-
-int connect(int fd, const struct sockaddr *address, socklen_t size)
-{
-    HOLDS(fd_is_open(fd) && __CPROVER_r_ok(address, size), "connect: it is open, and the address is there");
-    if (any_bool())
-        return 0;
-    errno = any_int();
-    return -1;
-}
-
-/* -- Checks -- */
-
+/* A reply of any kind, taken once; and the one before, of which the caller has claimed nothing. */
 void check_frontend_exchange(void)
 {
     covretin_connection connection = {.opaque = any_bool() ? &the : NULL};
     int32_t claimed = -1;
     short events;
+    the_room = &the.transport;
+    the.transport = (struct transport){.side = &frontend_side, .session = &connection.session};
+    the_socket = fd_new_if(connection.opaque != NULL);
+    model_begin(&frontend_model, true);
+    frontend_model.has_call = false; /* (it asks, and is asked nothing) */
     reply_fd = fd_new();
     model_hold(&frontend_model, reply_fd);
     int kept = fd_new_if(the.has_fd = any_bool());
@@ -163,22 +66,27 @@ void check_frontend_exchange(void)
     }
     HOLDS(covretin_claim_fd(&connection, &claimed) == COVRETIN_OTHER_ANSWER, "once");
     covretin_disconnect(&connection);
-    if (error != COVRETIN_NOTHING_ASKED) {
+    HOLDS(covretin_connection_fd(&connection) == -1, "it has no socket any more");
+    if (!takes_alone && error != COVRETIN_NOTHING_ASKED) {
         REACHED("taken");
         fds_are_closed(-1);
     }
-    HOLDS(covretin_connection_fd(&connection) == -1, "it has no socket any more");
 }
 
 void check_frontend_connect(void)
 {
     covretin_connection connection = {.opaque = any_bool() ? &the : NULL};
     void *was = connection.opaque;
-    enum covretin_error error = covretin_connect(&connection, "path", 1, any_int());
+    the_room = &the.transport;
+    the_size = sizeof(struct exchange);
+    enum covretin_error error = covretin_connect(&connection, "p", 1, any_int());
     HOLDS(!error || connection.opaque == was, "after an error all is as before");
-    fds_are_closed(-1);
-    if (!error)
-        REACHED("connected");
+    fds_are_closed(error ? -1 : covretin_connection_fd(&connection));
     if (error == COVRETIN_TIMED_OUT)
         REACHED("the time is over");
+    if (error)
+        return;
+    REACHED("connected");
+    covretin_disconnect(&connection);
+    fds_are_closed(-1);
 }

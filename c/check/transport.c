@@ -72,7 +72,7 @@ static void is_whole(const struct transport *it)
     HOLDS(it->at <= it->end && it->end <= sizeof it->bytes, "bytes[at .. end) are there");
     HOLDS(it->sent <= sizeof it->bytes, "it sent a message at most");
     HOLDS(it->fd_count <= COVRETIN_MAX_FDS, "fds[.. fd_count) are there");
-    HOLDS(it->code_len <= sizeof it->code, "code[.. code_len) are there");
+    HOLDS(it->seen.late_fds <= it->seen.fds, "descriptors that came late are some of those that came");
     HOLDS(it->came_count <= COVRETIN_MAX_FDS, "came[.. came_count) are there");
     for (size_t i = 0; i < COVRETIN_MAX_FDS; i++)
         HOLDS(i >= it->came_count || fd_is_open(it->came[i]), "what came is open");
@@ -96,7 +96,9 @@ static struct transport *any_transport(void)
     the.session = &session;
     the.socket = fd_new();
     GIVEN(the.at <= the.end && the.end <= sizeof the.bytes && the.sent <= sizeof the.bytes);
-    GIVEN(the.fd_count <= COVRETIN_MAX_FDS && the.code_len <= sizeof the.code && the.came_count <= 1);
+    GIVEN(the.fd_count <= COVRETIN_MAX_FDS && the.came_count <= 1);
+    GIVEN(the.broken != COVRETIN_NOT_YET); /* (transport_settle notes none that goes on) */
+    GIVEN(the.seen.late_fds <= the.seen.fds && the.seen.fds <= SIZE_MAX / 2 && the.seen.bytes <= SIZE_MAX / 2);
     the.came[0] = fd_new_if(the.came_count == 1);
     model_begin(&session, any_bool());
     int held = fd_new_if(the.brought);
@@ -113,6 +115,39 @@ static void ends(struct transport *it)
     transport_close(it->socket);
     model_is_empty(&session);
     fds_are_closed(-1);
+}
+
+/* -- What stands instead of what has a harness of its own (goto-instrument puts it there) -- */
+
+void any_close_fd(int fd)
+{
+    if (fd >= 0)
+        fd_gone(fd);
+}
+
+void any_close_came(struct transport *it)
+{
+    struct model *model = it->session;
+    for (size_t i = 0; i < COVRETIN_MAX_FDS; i++)
+        if (i < it->came_count)
+            fd_gone(it->came[i]);
+    it->came_count = 0;
+    for (int fd = 0; it->brought && fd < MOST_FDS; fd++)
+        if (model->is_held[fd]) {
+            model->is_held[fd] = false;
+            fd_gone(fd);
+        }
+    it->brought = false;
+}
+
+void any_close_unclaimed(struct transport *it)
+{
+    struct model *model = it->session;
+    for (int fd = 0; fd < MOST_FDS; fd++)
+        if (model->is_held[fd] && (!(model->has_call || model->may_be_claimed) || any_bool())) {
+            model->is_held[fd] = false;
+            fd_gone(fd);
+        }
 }
 
 /* -- Checks -- */
@@ -160,6 +195,27 @@ void check_transport_send(void)
     ends(it);
 }
 
+/* (what came is noted: check_note's) */
+void any_note(struct transport *it, size_t got, size_t fds)
+{
+    HOLDS(got <= sizeof it->bytes && fds <= 2 * 2 * MOST_PIECES, "no more than there is room for");
+    it->seen.fds = any_size();
+    it->seen.late_fds = any_size();
+    GIVEN(it->seen.late_fds <= it->seen.fds);
+}
+
+void check_note(void)
+{
+    struct transport *it = any_transport();
+    size_t got = any_size(), fds = any_size();
+    GIVEN(got <= sizeof it->bytes && fds <= SYSTEM_MAX_FDS);
+    note(it, got, fds);
+    HOLDS(got == 0 || it->seen.bytes >= got, "so many bytes came, or more");
+    (void)transport_request(it);
+    is_whole(it);
+    REACHED("noted");
+}
+
 void check_receive_piece(void)
 {
     struct transport *it = any_transport();
@@ -176,10 +232,24 @@ void check_receive_piece(void)
 }
 
 /* (what comes with a piece is check_receive_piece's) */
+enum covretin_error any_piece(struct transport *it, size_t most)
+{
+    HOLDS(it->at == 0 && it->end == 0 && most != 0 && most <= sizeof it->bytes, "there is room for a piece");
+    if (any_bool())
+        return any_bool() ? COVRETIN_NOT_YET : any_bool() ? COVRETIN_DISCONNECTED : COVRETIN_FDS_LOST;
+    it->end = any_size();
+    GIVEN(it->end >= 1 && it->end <= most);
+    bool comes = it->came_count == 0 && any_bool();
+    int fd = fd_new_if(comes);
+    if (comes)
+        it->came[it->came_count++] = fd;
+    it->begun = true;
+    return COVRETIN_OK;
+}
+
 void check_transport_receive(void)
 {
     struct transport *it = any_transport();
-    lay_out(2);
     enum covretin_error error = transport_receive(it);
     if (!error)
         REACHED("received");
@@ -286,6 +356,73 @@ void check_time(void)
     (void)transport_left_until(end);
     (void)transport_left_until(any_bool() ? -1 : 0);
     REACHED("no overflow");
+}
+
+/* -- Exchanges: over what the harnesses of sending, receiving and waiting show of these (goto-instrument puts these in their place) -- */
+
+enum covretin_error any_send(struct transport *it)
+{
+    if (any_bool())
+        it->fd_count = 0;
+    it->sent = any_size();
+    GIVEN(it->sent <= sizeof it->bytes);
+    return any_bool() ? COVRETIN_OK : any_bool() ? COVRETIN_INVALID_PARAM : any_bool() ? COVRETIN_NOT_YET : (enum covretin_error)any_int();
+}
+
+/* (a descriptor may have come with what the session has) */
+enum covretin_error any_receive_whole(struct transport *it)
+{
+    it->begun = it->begun || any_bool();
+    it->at = any_size();
+    it->end = any_size();
+    GIVEN(it->at <= it->end && it->end <= sizeof it->bytes);
+    return any_bool() ? COVRETIN_OK : any_bool() ? COVRETIN_NOT_YET : (enum covretin_error)any_int();
+}
+
+enum covretin_error any_wait(int socket, short events, int64_t end)
+{
+    static unsigned waits;
+    (void)end;
+    HOLDS(fd_is_open(socket) && events != 0, "it is known for what is waited");
+    return waits++ < MOST_AGAIN && any_bool() ? COVRETIN_OK : any_bool() ? COVRETIN_TIMED_OUT : COVRETIN_SOCKET_ERROR;
+}
+
+static unsigned taken;
+
+static enum covretin_error any_takes(void *of)
+{
+    taken++;
+    if (any_bool())
+        transport_next(of);
+    return (enum covretin_error)any_int();
+}
+
+void check_exchange(void)
+{
+    struct transport *it = any_bool() ? any_transport() : NULL;
+    enum covretin_error error;
+    short events = any_int();
+    side.take = any_take;
+    side.abandon = any_abandon;
+    bool was_broken = it != NULL && it->broken != COVRETIN_OK;
+    if (LAYOUT == 0) {
+        error = transport_exchange_nowait(it, any_takes, it, &events);
+        HOLDS((error == COVRETIN_NOT_YET) >= (events != 0), "only what is not yet done is waited for");
+    } else {
+        error = transport_exchange(it, any_takes, it, any_int());
+        HOLDS(it == NULL || !it->waits, "no call waits behind it");
+    }
+    if (it == NULL) {
+        HOLDS(error == COVRETIN_NO_SESSION, "there is no session");
+        return;
+    }
+    HOLDS(!was_broken || taken == 0, "nothing is taken of what is of no more use");
+    HOLDS(taken <= 1 || LAYOUT == 1, "a reply is taken once");
+    if (taken != 0)
+        REACHED("taken");
+    if (error == COVRETIN_INVALID_PARAM)
+        REACHED("taken back");
+    ends(it);
 }
 
 /* (within the first seconds of a clock: the difference of two times does not depend on when they are) */

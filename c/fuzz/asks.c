@@ -1,119 +1,156 @@
 /* SPDX-License-Identifier: Apache-2.0 */
 #include "asks.h"
+#include "covretin_backend.h"
 
 struct asked asked;
 
-static enum covretin_error ask_rings(covretin_session *session, uint8_t which)
+/* -- Arguments, which the input says -- */
+
+static uint64_t take_ring(void)
 {
-    size_t index = next_byte() % 5;
+    asked.index = next_byte() % 5;
     uint64_t number = next_number();
-    asked.index = (uint32_t)index;
     asked.ring = (covretin_vring){.flags = (uint32_t)number % 3, .desc_table_addr = number, .has_log_addr = number % 2};
     asked.fd = (int32_t)number;
-    switch (which % 8) {
-    case 0: asked.number = (uint16_t)number; return covretin_ask_set_vring_num(session, index, (uint16_t)number);
-    case 1: return covretin_ask_set_vring_addr(session, index, &asked.ring);
-    case 2: asked.number = (uint32_t)number; return covretin_ask_set_vring_base(session, index, (uint32_t)number);
-    case 3: return covretin_ask_get_vring_base(session, index);
-    case 4: return covretin_ask_set_vring_call(session, index, asked.fd);
-    case 5: return covretin_ask_set_vring_kick(session, index, asked.fd);
-    case 6: return covretin_ask_set_vring_err(session, index, asked.fd);
-    default: asked.number = number % 2; return covretin_ask_set_vring_enable(session, index, number % 2);
-    }
+    return number;
 }
 
-static enum covretin_error ask_memory(covretin_session *session, uint8_t which)
+static uint64_t take_regions(void)
 {
     uint64_t number = next_number();
     for (size_t i = 0; i < 33; i++)
         asked.regions[i] = (covretin_region){i, number, i, i, (int32_t)i};
     asked.region_count = 1;
     asked.log = asked.regions[0];
-    asked.fd = (int32_t)number;
-    switch (which % 6) {
-    case 0: asked.region_count = next_byte() % 34; return covretin_ask_set_mem_table(session, asked.regions, asked.region_count);
-    case 1: return covretin_ask_add_mem_region(session, asked.regions);
-    case 2: asked.regions[0].fd = -1; return covretin_ask_remove_mem_region(session, asked.regions);
-    case 3: return covretin_ask_set_log_base(session, number, &asked.log);
-    case 4: return covretin_ask_set_log_base_alone(session, number);
-    default: return covretin_ask_set_log_fd(session, asked.fd);
-    }
+    return number;
 }
 
-static enum covretin_error ask_numbers(covretin_session *session, uint8_t which)
-{
-    switch (which % 10) {
-    case 0: return covretin_ask_get_features(session);
-    case 1: asked.number = next_number(); return covretin_ask_set_features(session, asked.number);
-    case 2: return covretin_ask_get_protocol_features(session);
-    case 3: asked.number = next_number(); return covretin_ask_set_protocol_features(session, asked.number);
-    case 4: return covretin_ask_get_queue_num(session);
-    case 5: return covretin_ask_get_max_mem_slots(session);
-    case 6: return covretin_ask_set_owner(session);
-    case 7: return covretin_ask_reset_owner(session);
-    case 8: return covretin_ask_reset_device(session);
-    default: asked.number = (uint16_t)next_number(); return covretin_ask_set_mtu(session, (uint16_t)asked.number);
-    }
-}
-
-/* A part of the configuration space. */
-static enum covretin_error ask_config(covretin_session *session, uint8_t which, uint64_t number)
+/* A part of the configuration space, and bytes for it. */
+static uint64_t take_config(void)
 {
     static uint8_t bytes[COVRETIN_MAX_CONFIG + 1];
+    uint64_t number = next_number();
     memset(bytes, 0, 8);
     bytes[number % 8] = (uint8_t)number;
     asked.bytes = bytes;
     asked.config = (covretin_config){next_byte(), (uint32_t)(number % sizeof bytes), 0};
-    if (which == 1)
-        return covretin_ask_get_config_bytes(session, asked.config.offset, 0, bytes, asked.config.size);
-    if (which == 2)
-        return covretin_ask_set_config(session, asked.config.offset, 0, bytes, asked.config.size);
-    asked.config.size = (uint32_t)number;
-    asked.config.flags = next_byte();
-    return covretin_ask_get_config(session, asked.config.offset, asked.config.size, asked.config.flags);
+    return number;
 }
 
-static enum covretin_error ask_others(covretin_session *session, uint8_t which)
+static void take_area(void)
 {
-    static uint8_t name[16];
     uint64_t number = next_number();
-    asked.number = number;
-    asked.fd = (int32_t)number;
     asked.inflight = (covretin_inflight){number, 0, 1, (uint16_t)number};
-    switch (which % 14) {
-    case 0: case 1: case 2: return ask_config(session, which % 14, number);
-    case 3: return covretin_ask_set_backend_request_fd(session, asked.fd);
-    case 4: asked.bytes = name; name[0] = 1; return covretin_ask_get_shared_object(session, name, sizeof name);
-    case 5: asked.fd = -1; return covretin_ask_get_inflight_fd(session, &asked.inflight);
-    case 6: return covretin_ask_set_inflight_fd(session, &asked.inflight, asked.fd);
-    case 7: return covretin_ask_get_shmem_config(session);
-    case 8:
-        asked.direction = (uint32_t)number;
-        asked.fd = 3;
-        return covretin_ask_set_device_state_fd(session, asked.direction, 0, 3);
-    case 9: return covretin_ask_check_device_state(session);
-    case 10: return covretin_ask_postcopy_advise(session);
-    case 11: return covretin_ask_postcopy_listen(session);
-    case 12: return covretin_ask_postcopy_end(session);
-    default: return covretin_ask_postcopy_ack_mem_regions(session, (uint32_t)number);
-    }
+    asked.fd = (int32_t)number;
+}
+
+/* -- Each request of the table, by the form of what its call takes -- */
+
+static const uint8_t name_of_object[16] = {1};
+
+#define ASK_NOTHING(ask, fds) return ask(session);
+#define ASK_NUMBER(ask, fds) return ask(session, asked.number = next_number());
+#define ASK_PROTOCOL(ask, fds) ASK_NUMBER(ask, fds)
+#define ASK_SHORT(ask, fds) return ask(session, asked.number = (uint16_t)next_number());
+#define ASK_FD(ask, fds) return ask(session, asked.fd = (int32_t)next_number());
+#define ASK_RING(ask, fds) \
+    take_ring(); \
+    return ask(session, asked.index);
+/* (one takes 16 bits, and the other 32) */
+#define ASK_RING_NUMBER(ask, fds) \
+    uint64_t number = take_ring(); \
+    asked.number = _Generic(&ask, enum covretin_error (*)(covretin_session *, size_t, uint16_t) : (uint16_t)number, default : (uint32_t)number); \
+    return ask(session, asked.index, asked.number);
+#define ASK_RING_FLAG(ask, fds) \
+    asked.number = take_ring() % 2; \
+    return ask(session, asked.index, asked.number);
+#define ASK_RING_FD(ask, fds) \
+    take_ring(); \
+    return ask(session, asked.index, asked.fd);
+#define ASK_VRING(ask, fds) \
+    take_ring(); \
+    return ask(session, asked.index, &asked.ring);
+#define ASK_REGIONS(ask, fds) \
+    take_regions(); \
+    asked.region_count = next_byte() % 34; \
+    return ask(session, asked.regions, asked.region_count);
+#define ASK_REGION(ask, fds) \
+    take_regions(); \
+    asked.regions[0].fd = (fds) ? asked.regions[0].fd : -1; \
+    return ask(session, asked.regions);
+#define ASK_LOG(ask, fds) \
+    uint64_t base = take_regions(); \
+    return ask(session, base, &asked.log);
+#define ASK_CONFIG(ask, fds) \
+    asked.config.size = (uint32_t)take_config(); \
+    asked.config.flags = next_byte(); \
+    return ask(session, asked.config.offset, asked.config.size, asked.config.flags);
+#define ASK_BYTES(ask, fds) \
+    take_config(); \
+    return ask(session, asked.config.offset, 0, asked.bytes, asked.config.size);
+#define ASK_AREA(ask, fds) \
+    take_area(); \
+    asked.fd = -1; \
+    return ask(session, &asked.inflight);
+#define ASK_AREA_FD(ask, fds) \
+    take_area(); \
+    return ask(session, &asked.inflight, asked.fd);
+#define ASK_NAME(ask, fds) \
+    asked.bytes = name_of_object; \
+    return ask(session, name_of_object, sizeof name_of_object);
+#define ASK_TRANSFER(ask, fds) \
+    asked.direction = (uint32_t)next_number(); \
+    asked.fd = 3; \
+    return ask(session, asked.direction, 0, asked.fd);
+
+#define DEFINE(call, takes, fds) \
+    static enum covretin_error ask_##call(covretin_session *session) { ASK_##takes(covretin_ask_##call, fds) }
+#define REQUEST(name, call, feature, takes, sees, replies, reply, fds) DEFINE(call, takes, fds)
+#define OF_NO_DEVICE(name, call, feature, takes) DEFINE(call, takes, 1)
+#include "../tests/requests.def"
+
+/* -- Other calls, that ask for one of these requests in a way of their own -- */
+
+static enum covretin_error ask_log_base_alone(covretin_session *session)
+{
+    return covretin_ask_set_log_base_alone(session, take_regions());
+}
+
+static enum covretin_error ask_config_bytes(covretin_session *session)
+{
+    take_config();
+    return covretin_ask_get_config_bytes(session, asked.config.offset, 0, asked.bytes, asked.config.size);
+}
+
+static enum covretin_error ask_postcopy_ack(covretin_session *session)
+{
+    return covretin_ask_postcopy_ack_mem_regions(session, (uint32_t)next_number());
+}
+
+/* A request stands at its code, so that a new one changes no input that is kept. */
+enum { PLACES = 64, OTHERS = 56 };
+
+static enum covretin_error (*const asks[PLACES])(covretin_session *session) = {
+#define REQUEST(name, call, ...) [COVRETIN_CALL_##name] = ask_##call,
+#include "../tests/requests.def"
+    [OTHERS] = ask_log_base_alone, ask_config_bytes, ask_postcopy_ack,
+#define REQUEST(...)
+#define OF_NO_DEVICE(name, call, ...) ask_##call,
+#include "../tests/requests.def"
+};
+
+uint32_t number_of(uint8_t which)
+{
+    uint32_t place = which % PLACES;
+    while (asks[place] == NULL)
+        place = (place + 1) % PLACES;
+    return place;
 }
 
 enum covretin_error ask(covretin_session *session, uint8_t which)
 {
     memset(&asked, 0, sizeof asked);
-    switch (which % 4) {
-    case 0: return ask_numbers(session, which / 4);
-    case 1: return ask_rings(session, which / 4);
-    case 2: return ask_memory(session, which / 4);
-    default: return ask_others(session, which / 4);
-    }
-}
-
-uint32_t number_of(uint8_t which)
-{
-    static const uint8_t counts[4] = {10, 8, 6, 14};
-    return which % 4 * 16u + which / 4 % counts[which % 4];
+    return asks[number_of(which)](session);
 }
 
 size_t take_request(covretin_session *session, uint8_t *bytes, int32_t *fds, size_t *fd_count)

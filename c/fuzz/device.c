@@ -4,8 +4,8 @@
  *
  *     device SEED STEPS
  *
- * No step may wait, and after each session there are as many descriptors as before. Prints what was seen. Status 0; 1 after wrong arguments;
- * a step after which something is not so ends it by a signal. */
+ * No step may wait, and after each session there are as many descriptors as before. rust/fuzz/kit has the kit in Rust behind the calls that are made
+ * here. Prints what was seen. Status 0; 1 after wrong arguments; a step after which something is not so ends it by a signal. */
 #ifndef _GNU_SOURCE
 #define _GNU_SOURCE
 #endif
@@ -76,21 +76,55 @@ static size_t descriptors(void)
 
 /* -- The device -- */
 
-static void finish(covretin_request *request)
+/* How much is said to be written of it. */
+static uint32_t use(covretin_request *request)
 {
     static uint8_t bytes[PAGE];
     size_t read = covretin_request_read(request, is_rare(4) ? NULL : bytes, any(sizeof bytes));
     size_t written = covretin_request_write(request, bytes, any(sizeof bytes));
     must(read <= sizeof bytes && written <= sizeof bytes);
-    covretin_request_done(request, is_rare(16) ? UINT32_MAX : (uint32_t)written);
+    return is_rare(16) ? UINT32_MAX : (uint32_t)written;
 }
 
-static void take(void *own, covretin_request *request)
+static void finish(covretin_request *request)
+{
+    covretin_request_done(request, use(request));
+}
+
+static void look_at(const void *own, const covretin_request *request)
 {
     must(own == &device && request->queue < QUEUES && request->readable + request->writable <= COVRETIN_DEVICE_MAX_QUEUE_SIZE);
     requests++;
     for (size_t i = 0; i < request->readable + request->writable; i++)
         must(request->segments[i].iov_len != 0 && request->segments[i].iov_len <= MEMORY);
+}
+
+/* Requests that came together: some are kept, and the others are completed together, with some of another queue. */
+static void take_many(void *own, covretin_request *const *found, size_t count)
+{
+    covretin_request *done[2 * COVRETIN_DEVICE_BURST];
+    uint32_t written[2 * COVRETIN_DEVICE_BURST];
+    size_t done_count = 0;
+    must(count != 0 && count <= COVRETIN_DEVICE_BURST);
+    if (is_rare(4))
+        done_count = covretin_requests_take(found[0], (uint32_t)any(QUEUES + 1), done, any(COVRETIN_DEVICE_BURST + 1));
+    must(done_count <= COVRETIN_DEVICE_BURST);
+    for (size_t i = 0; i < count; i++) {
+        look_at(own, found[i]);
+        must(found[i]->queue == found[0]->queue);
+        if (kept_count < MOST_KEPT && is_rare(3))
+            kept[kept_count++] = found[i];
+        else
+            done[done_count++] = found[i];
+    }
+    for (size_t i = 0; i < done_count; i++)
+        written[i] = use(done[i]);
+    covretin_requests_done(done, written, done_count);
+}
+
+static void take(void *own, covretin_request *request)
+{
+    look_at(own, request);
     covretin_request *other = is_rare(4) ? covretin_request_take(request, (uint32_t)any(QUEUES + 1)) : NULL;
     if (other != NULL)
         finish(other);
@@ -522,6 +556,7 @@ static void begin(void)
     has_ended = false;
     calls.features = is_packed || is_rare(4) ? COVRETIN_DEVICE_RING_PACKED : 0;
     calls.config_changed = is_rare(2) ? changes : NULL;
+    calls.requests = is_rare(2) ? take_many : NULL;
     calls.channel = is_rare(2) ? take_channel : NULL;
     must(ftruncate(memory, MEMORY) == 0 && socketpair(AF_UNIX, SOCK_STREAM | SOCK_CLOEXEC, 0, ends) == 0);
     must(covretin_device_open_fd(&device, &calls, &device, ends[1]) == COVRETIN_OK);

@@ -134,27 +134,68 @@ static uint64_t model_walk(covretin_descriptor copies[MOST_COPIES], size_t given
     return reasons;
 }
 
+/* What is given, and what comes of it. */
+static struct walking {
+    covretin_descriptor copies[MOST_COPIES];
+    covretin_segment segments[MOST_PLACES + 1], expected[MOST_PLACES];
+    covretin_walked walked;
+    size_t given, places;
+} now;
+
+static void next_copies(void)
+{
+    now.given = next_byte() % (MOST_COPIES + 1);
+    now.places = next_byte() % (MOST_PLACES + 1);
+    for (size_t i = 0; i < now.given; i++)
+        now.copies[i] = next_descriptor();
+    memset(now.segments, BLANK, sizeof now.segments);
+}
+
+static uint64_t model_walks(void)
+{
+    return model_walk(now.copies, now.given, now.expected, now.places, &now.walked);
+}
+
+/* What was told of the chain is what the model says, if it did something. */
+static void see_walked(bool did)
+{
+    must(is_blank(now.segments + now.places, sizeof now.segments - now.places * sizeof *now.segments));
+    if (!did)
+        return;
+    must(out.walked.taken == now.walked.taken && out.walked.count == now.walked.count && is_table(&out.walked.table, &now.walked.table));
+    for (size_t i = 0; i < now.walked.count; i++) {
+        const covretin_segment *it = &now.segments[i], *expected = &now.expected[i];
+        must(is_range(it->range, expected->range) && it->guest_addr == expected->guest_addr && it->writable == expected->writable);
+        device_touches(it->range, it->writable);
+    }
+}
+
 /* The next descriptors are read, and taken by one call. */
 static void walk(void)
 {
-    static covretin_segment segments[MOST_PLACES + 1], expected[MOST_PLACES];
-    covretin_descriptor copies[MOST_COPIES];
-    covretin_walked walked;
-    size_t given = next_byte() % (MOST_COPIES + 1), places = next_byte() % (MOST_PLACES + 1);
-    for (size_t i = 0; i < given; i++)
-        copies[i] = next_descriptor();
-    memset(segments, BLANK, sizeof segments);
-    uint64_t reasons = model_walk(copies, given, expected, places, &walked);
-    bool did = DOES(WALK, covretin_queue_walk(&queue, copies, given, segments, places, &out.walked), reasons);
-    must(is_blank(segments + places, sizeof segments - places * sizeof *segments));
-    if (!did)
-        return;
-    must(out.walked.taken == walked.taken && out.walked.count == walked.count && is_table(&out.walked.table, &walked.table));
-    for (size_t i = 0; i < walked.count; i++) {
-        must(is_range(segments[i].range, expected[i].range) && segments[i].guest_addr == expected[i].guest_addr);
-        must(segments[i].writable == expected[i].writable);
-        device_touches(segments[i].range, segments[i].writable);
+    next_copies();
+    uint64_t reasons = model_walks();
+    see_walked(DOES(WALK, covretin_queue_walk(&queue, now.copies, now.given, now.segments, now.places, &out.walked), reasons));
+}
+
+/* The same, and before them the next chain. */
+static void take(void)
+{
+    covretin_range place = {0, 0};
+    bool is_packed = model.layout == PACKED;
+    uint16_t value = is_packed ? next_available() : next_head(), count = 1;
+    if ((is_packed ? model_available_place(&place) : model_head_place(&place)) == 0)
+        value = (uint16_t)guest_has(place, value);
+    next_copies();
+    uint64_t reasons = is_packed ? model_available(value, &count) : model_take(value, false);
+    if (reasons == 0 && count == 0)
+        reasons = REASON(COVRETIN_QUEUE_NOTHING_AVAILABLE);
+    if (reasons == 0) {
+        if (!is_packed)
+            held[held_count++] = value;
+        reasons = model_walks();
     }
+    see_walked(DOES(TAKE, covretin_queue_take(&queue, value, now.copies, now.given, now.segments, now.places, &out.walked), reasons));
 }
 
 /* A head is given back: one that the device has, or any; or one is its own that it did not follow. */
@@ -244,11 +285,13 @@ static void any_step(void)
     case 4: which < 64 ? recover_any() : which < 128 ? recover_packed_any() : log_range(); break;
     case 5: which < 32 ? crash_packed() : which < 64 ? crash() : resubmit(); break;
     case 6: case 7: case 8: case 9: case 10: look(); break;
-    case 11: case 12: case 13: case 14: case 15: which < 16 || model.layout == SPLIT ? pop() : look(), follow(); break;
+    case 11: case 12: case 13: which < 16 || model.layout == SPLIT ? pop() : look(), follow(); break;
+    case 14: case 15: take(), follow(); break;
     case 16: case 17: case 18: which < 128 ? walk() : step(); break;
     case 19: case 20: case 21: case 22: follow(); break;
     case 23: which < 64 ? adopt() : give_back(next_byte()); break;
     case 24: case 25: case 26: case 27: tell_of(); break;
+    case 28: give_many(); break;
     default: which = next_byte(), give(which, (uint16_t)next_number(), which % 2 * (uint32_t)next_number()); break;
     }
     see();

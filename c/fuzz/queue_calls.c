@@ -37,6 +37,10 @@ static void see_places(void)
     must(!is_done(model_available_place(&place)) || is_range(out.place, place));
     LOOK(covretin_queue_head_place(&queue, &out.place));
     must(!is_done(model_head_place(&place)) || is_range(out.place, place));
+    for (size_t most = 0; most < 10; most += 3) {
+        LOOK(covretin_queue_heads_place(&queue, most, &out.place));
+        must(!is_done(model_heads_place(most, &place)) || is_range(out.place, place));
+    }
     LOOK(covretin_queue_notification_place(&queue, &out.place));
     must(!is_done(model_notification_place(&place)) || is_range(out.place, place));
     LOOK(covretin_queue_descriptor_place(&queue, &out.place, &out.is));
@@ -133,18 +137,69 @@ void forget(uint16_t id)
     held[which] = held[--held_count];
 }
 
+/* One of the device's chains, or else what it is given. */
+static uint16_t chain_of(size_t which, uint16_t id)
+{
+    return held_count != 0 && which < 240 ? held[which % held_count] : id;
+}
+
+/* What is to be written for a chain is what the model says, and is written. */
+static void write_used(const covretin_used *told, const covretin_used *used)
+{
+    must(is_range(told->elem, used->elem) && told->elem_value == used->elem_value);
+    must(is_range(told->then, used->then) && told->then_value == used->then_value);
+    device_writes(used->elem, used->elem_value);
+    device_writes(used->then, used->then_value);
+}
+
 void give(size_t which, uint16_t id, uint32_t len)
 {
     covretin_used used;
-    if (held_count != 0 && which < 240) {
-        which %= held_count;
-        id = held[which];
-    }
+    id = chain_of(which, id);
     if (!DOES(GIVE, covretin_queue_add_used(&queue, id, len, &out.used), model_add_used(id, len, &used)))
         return;
-    must(is_range(out.used.elem, used.elem) && out.used.elem_value == used.elem_value);
-    must(is_range(out.used.then, used.then) && out.used.then_value == used.then_value);
-    device_writes(used.elem, used.elem_value);
-    device_writes(used.then, used.then_value);
+    write_used(&out.used, &used);
     forget(id);
+}
+
+enum { MOST_GIVEN = 5 };
+
+/* Chains are given back one by one by the model, up to the first that is refused: why it is. */
+static uint64_t model_give_many(const uint16_t *ids, const uint32_t *lens, size_t count, covretin_used *used, size_t *done)
+{
+    uint64_t reasons = 0;
+    for (*done = 0; *done < count; ++*done) {
+        reasons = model_add_used(ids[*done], lens[*done], &used[*done]);
+        if (reasons != 0)
+            break;
+    }
+    return reasons;
+}
+
+void give_many(void)
+{
+    uint16_t ids[MOST_GIVEN];
+    uint32_t lens[MOST_GIVEN];
+    covretin_used used[MOST_GIVEN + 1], expected[MOST_GIVEN];
+    size_t count = next_byte() % (MOST_GIVEN + 1), lens_len = MOST_GIVEN, room = MOST_GIVEN, expected_done = 0, done = MOST_GIVEN + 1;
+    uint64_t reasons = model.is_open ? 0 : REASON(COVRETIN_QUEUE_NO_QUEUE);
+    for (size_t i = 0; i < count; i++) {
+        uint8_t which = next_byte();
+        ids[i] = chain_of(which, which % 20);
+        lens[i] = (uint32_t)next_number();
+    }
+    if (count != 0 && next_byte() % 16 == 0) {
+        lens_len = next_byte() % 2 ? count - 1 : count;
+        room = lens_len < count ? MOST_GIVEN : count - 1;
+        reasons |= model.is_open ? REASON(COVRETIN_QUEUE_NO_ROOM) : 0;
+    }
+    if (reasons == 0)
+        reasons = model_give_many(ids, lens, count, expected, &expected_done);
+    memset(used, BLANK, sizeof used);
+    DOES(GIVE_MANY, covretin_queue_add_used_many(&queue, ids, count, lens, lens_len, used, room, &done), reasons);
+    must(done == expected_done && is_blank(used + done, sizeof used - done * sizeof *used));
+    for (size_t i = 0; i < done; i++) {
+        write_used(&used[i], &expected[i]);
+        forget(ids[i]);
+    }
 }

@@ -70,7 +70,9 @@ enum {
     RECOVER_PACKED,
     WALK,
     GIVE_BACK,
-    ADOPT
+    ADOPT,
+    TAKE,
+    GIVE_MANY
 };
 
 /* Whether it ended without a reason to be refused, and did something. */
@@ -82,9 +84,11 @@ bool is_table(const covretin_table *one, const covretin_table *other);
 /* Looks at all that can be seen of the queue. */
 void see(void);
 
-/* The queue is started so: whether it has these rings. And the device is done with a chain of its own, or else with one that it has not. */
+/* The queue is started so: whether it has these rings. And the device is done with a chain of its own, or else with one that it has not; or with some
+ * of either, by one call. */
 bool start(const struct start *it);
 void give(size_t which, uint16_t id, uint32_t len);
+void give_many(void);
 
 /* A chain of the device's is no more: that of this head or id. */
 void forget(uint16_t id);

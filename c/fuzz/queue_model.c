@@ -251,6 +251,18 @@ uint64_t model_head_place(covretin_range *place)
     return reasons;
 }
 
+/* Those from there on, up to the end of the ring, and of what is available. */
+uint64_t model_heads_place(size_t most, covretin_range *place)
+{
+    uint64_t reasons = model_head_place(place);
+    for (place->len = 0; reasons == 0 && place->len / 2 < most; place->len += 2) {
+        uint16_t entry = (uint16_t)(model.avail + place->len / 2);
+        if (entry == (uint16_t)model.idx || (place->len != 0 && entry % model.size == 0))
+            break;
+    }
+    return reasons;
+}
+
 uint64_t model_descriptor_place(covretin_range *place, bool *found)
 {
     *found = no_rings() == 0 && model.chain.goes_on;

@@ -75,6 +75,7 @@ uint64_t model_base(uint32_t *base);
 
 uint64_t model_available_place(covretin_range *place);
 uint64_t model_head_place(covretin_range *place);
+uint64_t model_heads_place(size_t most, covretin_range *place);
 uint64_t model_descriptor_place(covretin_range *place, bool *found);
 uint64_t model_notification_place(covretin_range *place);
 uint64_t model_set_notification(bool enable, covretin_event_write *write);

@@ -97,17 +97,19 @@ static bool reply(uint32_t call)
     return error != COVRETIN_SOCKET_RETRY && error != COVRETIN_SOCKET_BROKEN ? true : !is_broken();
 }
 
-/* Whether a request has a reply of its own in every session. */
+/* Whether a request has a reply of its own in every session: SET_LOG_BASE has one under LOG_SHMFD alone, and POSTCOPY_END one whatever its flags
+ * are. */
 static bool has_reply(uint32_t of)
 {
-    static const uint8_t with[] = {
-        COVRETIN_CALL_GET_FEATURES,       COVRETIN_CALL_GET_PROTOCOL_FEATURES, COVRETIN_CALL_GET_QUEUE_NUM,
-        COVRETIN_CALL_GET_VRING_BASE,     COVRETIN_CALL_GET_CONFIG,            COVRETIN_CALL_GET_INFLIGHT_FD,
-        COVRETIN_CALL_GET_MAX_MEM_SLOTS,  COVRETIN_CALL_GET_SHARED_OBJECT,     COVRETIN_CALL_GET_SHMEM_CONFIG,
-        COVRETIN_CALL_SET_DEVICE_STATE_FD, COVRETIN_CALL_CHECK_DEVICE_STATE,   COVRETIN_CALL_POSTCOPY_ADVISE,
-        COVRETIN_CALL_POSTCOPY_END,
-    };
-    return of < 64 && memchr(with, (int)of, sizeof with) != NULL;
+    if (of == COVRETIN_CALL_SET_LOG_BASE || of == COVRETIN_CALL_POSTCOPY_END)
+        return of == COVRETIN_CALL_POSTCOPY_END;
+    switch (of) {
+#define HAS_OWN true
+#define HAS_ACK false
+#define REQUEST(name, call, feature, takes, sees, replies, reply, fds) case COVRETIN_CALL_##name: return HAS_##reply;
+#include "../tests/requests.def"
+    default: return false;
+    }
 }
 
 /* Checks the request, if it is there, and serves it. Under STANDARD one that has a reply is replied to, or the session has ended; but for

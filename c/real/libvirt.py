@@ -7,6 +7,7 @@ Prints what is done. Status 0 where all was as it has to be; 1 where something w
 """
 import glob
 import os
+import pwd
 import shutil
 import signal
 import socket
@@ -78,14 +79,28 @@ def begin(*before, **more):
         return run([*before, "virt-qemu-run", "-v", "-r", f"{os.getcwd()}/state", "domain.xml"], log, **more)
 
 
+# What libvirt says where a try cannot be, and why that is so.
+CANNOT = {
+    "Failed to parse user": "the user of libvirt's QEMU is missing, whom the package libvirt-daemon-system makes",  # looked up before it reads of another
+    "Failed to probe capabilities": "this libvirt cannot ask this QEMU what it has, as 9.0 cannot ask QEMU 10 or 11",
+}
+
+
 def said_of(libvirt, words):
     """What libvirt has said, once that has these words."""
 
     def said():
-        with open("libvirt.log", encoding="utf-8") as it:
-            return it.read()
+        text = ""
+        for path in filter(os.path.exists, ("libvirt.log", "home/log")):
+            with open(path, encoding="utf-8") as it:
+                text += it.read()
+        return text
 
     wait_until(lambda: words in said() or libvirt.poll() is not None, f"libvirt says {words}")
+    for told, why in CANNOT.items():
+        if told in said():
+            tell(why)
+            raise SystemExit(4)
     check(words in said(), f"libvirt says {words}: {said()[-300:]}")
 
 
@@ -97,6 +112,20 @@ def as_nobody():
         for name in (".", *names):
             os.chown(os.path.join(at, name), NOBODY, NOBODY)
     return ["setpriv", f"--reuid={NOBODY}", f"--regid={NOBODY}", "--clear-groups"]
+
+
+ACCOUNTS = {"passwd": "libvirt-qemu:x:64055:64055::/:/usr/sbin/nologin", "group": "libvirt-qemu:x:64055:"}
+
+
+def with_its_user():
+    """The words before libvirt. As root it ends where there is no user of this name, whoever is to have QEMU, and a package that is not needed here
+    makes him. So it sees one more line of two files."""
+    if os.getuid() != 0 or any(it.pw_name == "libvirt-qemu" for it in pwd.getpwall()):
+        return []
+    for name, line in ACCOUNTS.items():
+        with open(f"/etc/{name}", encoding="utf-8") as had, open(name, "w", encoding="utf-8") as it:
+            it.write(f"{had.read()}{line}\n")
+    return ["unshare", "--mount", "sh", "-c", 'mount --bind passwd /etc/passwd && mount --bind group /etc/group && exec "$@"', "sh"]
 
 
 # -- The tries --
@@ -112,7 +141,7 @@ def tried_disk(place, boot):
     with socket.socket(socket.AF_UNIX) as listener:
         listener.bind("console")
         listener.listen()
-        libvirt = begin()
+        libvirt = begin(*with_its_user())
         said_of(libvirt, "guest running")
         emulator = Started()
         machine = Shell("machine", Stream(listener.accept()[0]))

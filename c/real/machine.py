@@ -31,8 +31,9 @@ SYSTEM_SIZE = 256 << 20
 MODULES = ["virtio_ring", "virtio", "virtio_pci_legacy_dev", "virtio_pci_modern_dev", "virtio_pci", "virtio_blk"]
 MODULES += ["crc16", "crc32c_generic", "mbcache", "jbd2", "ext4"]
 # Of the devices that are no disk: loaded by the try that has them.
-MORE_MODULES = ["virtio-rng", "failover", "net_failover", "virtio_net", "fuse", "virtiofs"]
-MORE_MODULES += ["vsock", "vmw_vsock_virtio_transport_common", "vmw_vsock_virtio_transport"]
+IDLE_MODULES = ["failover", "net_failover", "virtio_net", "fuse", "virtiofs"]
+IDLE_MODULES += ["vsock", "vmw_vsock_virtio_transport_common", "vmw_vsock_virtio_transport"]
+MORE_MODULES = ["virtio-rng", *IDLE_MODULES]
 
 # -- The image --
 
@@ -139,10 +140,14 @@ def bytes_of(seed, size):
     return random.Random(seed).randbytes(size)
 
 
-def tried_boot(program):
+def disk_said():
+    with open("disk.log", encoding="utf-8") as it:
+        return it.read()
+
+
+def boot_twice(disk, **settings):
     """Linux boots from the disk, mounts it, writes and powers off; what it wrote is in the file, and read by a second boot."""
-    disk = Disk(program)
-    machine = boot("first", disk)
+    machine = boot("first", disk, **settings)
     check(machine.do("cat /sys/block/vda/size") == str(os.path.getsize("image") // SECTOR), "the disk has the image's size")
     check(machine.do("cat /sys/block/vda/serial") == "covretin", "the disk has its name")
     machine.do("mount -t ext4 /dev/vda1 /mnt && seq 100000 >/mnt/numbers && sync && umount /mnt && echo written")
@@ -150,11 +155,26 @@ def tried_boot(program):
     with open("image", "rb") as it:
         it.seek(SYSTEM_AT * SECTOR)
         check("\n".join(map(str, range(1, 500))).encode() in it.read(), "what the guest wrote is in the image")
-    machine = boot("second", disk)
+    machine = boot("second", disk, **settings)
     wanted = hashlib.sha256("".join(f"{i}\n" for i in range(1, 100001)).encode()).hexdigest()
     found = machine.do("mount -t ext4 /dev/vda1 /mnt && sha256sum /mnt/numbers && umount /mnt")
     check(found.split()[0] == wanted, "a second boot reads what the first wrote")
     machine.power_off()
+    disk.end()
+
+
+def tried_boot(program):
+    boot_twice(Disk(program))
+
+
+def tried_uncached(program):
+    """The same from a disk without a cache that takes no queue of more than 64 descriptors, as QEMU has them. With larger ones no guest boots."""
+    boot_twice(Disk(program), rings="num-queues=2,queue-size=64")
+    check("refused" not in disk_said(), "nothing was refused")
+    disk = Disk(program, "small")
+    machine = Machine("large", disk)
+    wait_until(lambda: "SET_VRING_NUM refused: queue 0 cannot have 128 descriptors: it takes 1 to 64" in disk_said(), "it says why not")
+    machine.quit()
     disk.end()
 
 
@@ -172,9 +192,6 @@ WRITER = (
     "dd of=/dev/vda1 bs=4k count=1 seek=$((32768 + i)) iflag=fullblock conv=notrunc,sync oflag=direct 2>/dev/null || "
     "echo failed >/tmp/failed; echo $i >/tmp/count; done; echo ended >/tmp/ended) &"
 )
-
-# Writes to so much memory all the time that it is never all sent while the guest runs.
-DIRTIER = "(while [ ! -e /tmp/clean ]; do dd if=/dev/zero of=/tmp/dirty bs=1M count=8 conv=notrunc 2>/dev/null; done) &"
 
 
 def stop_writer(machine):
@@ -206,27 +223,47 @@ def two_machines(program):
     return disks, source, target
 
 
+def send_each_page(source, target):
+    """Begins a migration that pauses the machine at its end, and sends each page. It waits then, with pages to send that were written meanwhile,
+    however slow all is. By what it goes on, and what says whether it is over."""
+    passage = Passage()
+    source.ask("migrate-set-capabilities", capabilities=[{"capability": "pause-before-switchover", "state": True}])
+    source.ask("migrate-set-parameters", **{"max-bandwidth": 1 << 30, "downtime-limit": 1})
+    target.ask("migrate-incoming", uri="unix:arrival")
+    is_over = migrate(source)
+    for count in range(3):
+        passage.wait_until(lambda: sent(source, "dirty-sync-count") > count, f"all pages were looked through {count + 1} times")
+        source.do("yes | head -c 16777216 >/tmp/dirty")
+    return passage, is_over
+
+
+def send_the_rest(source, passage):
+    """Sends all but what the machine is at last, for which it is paused. The migration has to be under way until then."""
+    check(source.ask("query-migrate")["status"] == "active", "the migration goes on meanwhile")
+    source.ask("migrate-set-parameters", **{"downtime-limit": 2000})
+    passage.wait_until(lambda: source.ask("query-migrate")["status"] == "pre-switchover", "all was sent but what the machine is at last")
+
+
+def go_over(source, target, passage, is_over):
+    """Sends that, too: the other machine runs."""
+    source.ask("migrate-continue", state="pre-switchover")
+    passage.finish()
+    wait_until(is_over, "the migration is over")
+    wait_running(target)
+
+
 def tried_migration(program):
     """A machine is migrated while it reads and writes: the pages that the disk writes meanwhile come along, since it logs them."""
     disks, source, target = two_machines(program)
     half = 16 << 20
     wanted = fill_system(2 * half)
     source.do(WRITER)
-    source.do(DIRTIER)
     source.do("exec 3</dev/vda1; head -c 16777216 /dev/vda1 >/dev/null")
-    target.ask("migrate-incoming", uri="unix:migration")
-    # As long as the guest may pause for a millisecond alone, and writes more pages than are sent in that time, it is not over.
-    source.ask("migrate-set-parameters", **{"max-bandwidth": 16 << 20, "downtime-limit": 1})
-    is_over = migrate(source)
-    wait_until(lambda: sent(source, "dirty-sync-count") > 2, "each page was sent")
-    source.ask("migrate-set-parameters", **{"max-bandwidth": 1 << 16})
+    passage, is_over = send_each_page(source, target)
     source.do("head -c 33554432 /dev/vda1 >/dev/null")
     before = written(source)
-    check(not is_over(), "the migration goes on meanwhile")
-    source.ask("migrate-set-parameters", **{"max-bandwidth": 1 << 30, "downtime-limit": 2000})
-    wait_until(is_over, "the migration is over")
-    wait_running(target)
-    target.do("touch /tmp/clean")
+    send_the_rest(source, passage)
+    go_over(source, target, passage, is_over)
     # what was read before is in the target's memory, and not read again
     target.do("sectors() { awk '{ print $3 }' /sys/block/vda/vda1/stat; }; was=$(sectors)")
     found = target.do("head -c 33554432 /dev/vda1 | sha256sum; [ $(($(sectors) - was)) -lt 1024 ]")
@@ -238,6 +275,7 @@ def tried_migration(program):
     source.quit()
     for disk in disks:
         disk.end()
+    passage.close()
     check_blocks(count)
 
 
@@ -285,8 +323,7 @@ def kill_amid_writes(machine, disk, times, queue_size=128):
     machine.power_off()
     disk.end()
     check_blocks(count)
-    with open("disk.log", encoding="utf-8") as it:
-        again = it.read().count("are done again")
+    again = disk_said().count("are done again")
     tell(f"{again} disks did requests again that the inflight region had")
     check(again == (times if is_noted else 0), "each was killed amid a request")
 
@@ -342,9 +379,10 @@ def tried_memory(program):
 
 
 # Devices of QEMU, by their names: how it has them, the driver in the guest, how many rings that sets up, and features that the device
-# offers. The network card has no MSI-X: with it, and without KVM, QEMU 7.2 ends by a segmentation fault.
+# offers. The network card has no MSI-X: with it, and without KVM, QEMU 7.2 ends by a segmentation fault. No source of entropy is among
+# them, whose ring has to be served: Linux has a thread that waits for bytes under a lock, which insmod takes, too. Where the thread is
+# first, insmod never ends, whatever QEMU it is.
 DEVICES = {
-    "rng": (["-device", "vhost-user-rng-pci,chardev=rng"], "virtio_rng", 1, 0),
     "net": (["-netdev", "vhost-user,id=net,chardev=net", "-device", "virtio-net-pci,netdev=net,vectors=0"], "virtio_net", 2, 0x38008),
     "fs": (["-device", "vhost-user-fs-pci,chardev=fs,tag=files"], "virtiofs", 2, 0),
     "vsock": (["-device", "vhost-user-vsock-pci,chardev=vsock"], "vmw_vsock_virtio_transport", 2, 0),
@@ -364,8 +402,8 @@ def check_calls(name, rings):
 
 
 def tried_devices(program):
-    """QEMU's frontends of an entropy source, a network card, a file system and a socket device, each over a device that replies to
-    all that it is asked: what they ask from the negotiation to the end is served."""
+    """QEMU's frontends of a network card, a file system and a socket device, each over a device that replies to all that it is asked:
+    what they ask from the negotiation to the end is served."""
     disk = Disk(program)
     words, devices = [], {}
     for name, (device, _, rings, features) in DEVICES.items():
@@ -375,7 +413,7 @@ def tried_devices(program):
         wait_until(lambda at=path: os.path.exists(at), f"{name} listens", 10)
         words += ["-chardev", f"socket,id={name},path={path}", *device]
     machine = boot("machine", disk, *words)
-    machine.do(f"for it in {' '.join(MORE_MODULES)}; do insmod /modules/$it.ko || exit 1; done")
+    machine.do(f"for it in {' '.join(IDLE_MODULES)}; do insmod /modules/$it.ko || exit 1; done")
     for name, (_, driver, _, _) in DEVICES.items():
         machine.do(f"ls /sys/bus/virtio/drivers/{driver} | grep -q virtio")
     machine.do("ip link set eth0 up")
@@ -464,14 +502,16 @@ def tried_frames(program):
     tell(f"{found[1]} frames were sent back, {found[2]} dropped")
 
 
-def begin_card(name, number, *words):
-    """A card, which the words join to others, and the words by which a machine has it."""
+def begin_card(name, number, *words, pairs=1):
+    """A card of so many pairs of queues, which the words join to others, and the words by which a machine has it: a processor for each pair."""
     path = f"{name}-card-{os.getpid()}.socket"
     with open(f"{name}.card", "wb") as log:
-        card = run([ANY, f"--socket-path={path}", *words], log)
+        card = run([ANY, f"--socket-path={path}", f"--queue-pairs={pairs}", *words], log)
     wait_until(lambda: os.path.exists(path), "the card listens", 10)
-    *netdev, device = DEVICES["net"][0]
-    return card, ("-chardev", f"socket,id=net,path={path}", *netdev, f"{device},mac=52:54:00:00:00:0{number}")
+    kind, netdev, of_device, device = DEVICES["net"][0]
+    has_pairs = "on" if pairs > 1 else "off"
+    return card, ("-smp", str(pairs), "-chardev", f"socket,id=net,path={path}", kind, f"{netdev},queues={pairs}",
+                  of_device, f"{device},mq={has_pairs},mac=52:54:00:00:00:0{number}")
 
 
 def boot_at_card(name, disk, number, *words):
@@ -484,7 +524,7 @@ def boot_at_card(name, disk, number, *words):
 def machine_with_card(program, name, far, number):
     """A machine, its disk, and its card, whose other end is the card of the machine that is named."""
     disk = Disk(program, name)
-    card, words = begin_card(name, number, f"--local={name}.wire", f"--remote={far}.wire")
+    card, words = begin_card(name, number, f"--local={name}.wire", f"--remote={far}.wire", pairs=2)
     return boot_at_card(name, disk, number, *words), disk, card
 
 
@@ -495,12 +535,15 @@ def end_cards(cards):
 
 
 def tried_ping(program):
-    """Two machines over two cards, each the other end of the other: each answers pings, and a mebibyte goes over TCP."""
+    """Two machines over two cards, each the other end of the other, with two pairs of queues: each answers pings, also of frames that take many
+    buffers, and a mebibyte goes over TCP."""
     there = [machine_with_card(program, *it) for it in (("one", "two", 1), ("two", "one", 2))]
     machines = [it[0] for it in there]
     for machine, number in zip(machines, (2, 1)):
-        found = machine.do(f"ping -c 5 -W 60 10.0.0.{number}; ping -c 5 -W 60 -s 1400 10.0.0.{number}")
-        check(found.count("5 packets received, 0% packet loss") == 2, "each ping is answered")
+        check(machine.do("ls -d /sys/class/net/eth0/queues/rx-*").count("rx-") == 2, "the driver uses both pairs")
+        machine.do("ip link set eth0 mtu 9000")
+        found = machine.do(f"for it in 56 1400 8000; do ping -c 5 -W 60 -s $it 10.0.0.{number}; done")
+        check(found.count("5 packets received, 0% packet loss") == 3, "each ping is answered")
     sent = machines[1].do("head -c 1048576 /dev/urandom >/tmp/sent; httpd -h /tmp; sha256sum </tmp/sent")
     check(machines[0].do("wget -q -O - http://10.0.0.2/sent | sha256sum") == sent, "what was sent came")
     for machine, disk, card in there:
@@ -552,20 +595,6 @@ def check_lost(heard):
     check(lost == between, "those that were lost were sent in a row")
 
 
-def send_each_page(source, target):
-    """Begins a migration that pauses the machine at its end, and sends each page. It waits then, with pages to send that were written meanwhile,
-    however slow all is. By what it goes on, and what says whether it is over."""
-    passage = Passage()
-    source.ask("migrate-set-capabilities", capabilities=[{"capability": "pause-before-switchover", "state": True}])
-    source.ask("migrate-set-parameters", **{"max-bandwidth": 1 << 30, "downtime-limit": 1})
-    target.ask("migrate-incoming", uri="unix:arrival")
-    is_over = migrate(source)
-    for count in range(3):
-        passage.wait_until(lambda: sent(source, "dirty-sync-count") > count, f"all pages were looked through {count + 1} times")
-        source.do("yes | head -c 16777216 >/tmp/dirty")
-    return passage, is_over
-
-
 def tried_ping_migration(program):
     """A machine is migrated while another pings it, over a bridge: pings are lost only while it runs nowhere, for which it is paused; and its card
     tells the bridge where it went."""
@@ -576,15 +605,10 @@ def tried_ping_migration(program):
     passage, is_over = send_each_page(source, target)
     wait_answered(3, "during the migration")
     heard = max(pings().answered)
-    check(source.ask("query-migrate")["status"] == "active", "the migration goes on meanwhile")
-    source.ask("migrate-set-parameters", **{"downtime-limit": 2000})
-    passage.wait_until(lambda: source.ask("query-migrate")["status"] == "pre-switchover", "all was sent but what the machine is at last")
+    send_the_rest(source, passage)
     before = len(pings().asked)
     wait_until(lambda: len(pings().asked) >= before + 3, "pings go on")
-    source.ask("migrate-continue", state="pre-switchover")
-    passage.finish()
-    wait_until(is_over, "the migration is over")
-    wait_running(target)
+    go_over(source, target, passage, is_over)
     wait_answered(5, "after the migration")
     check("5 packets received, 0% packet loss" in target.do("ping -c 5 -W 60 10.0.0.2"), "the machine's own are answered there")
     pinger.do("killall ping")

@@ -13,13 +13,15 @@ import shutil
 import sys
 
 from emulator import check, migrate, play, run, sent, tell, wait_for_end, wait_running, wait_until
-from machine import DIRTIER, Guest, make_first_system, newest
+from machine import Guest, make_first_system, newest
 
 MEGABYTE = 1 << 20
 FOLDER = "folder"
 # What the guest's kernel needs for it. (What a page holds is not kept for the next mount.)
 MOUNT = "insmod /modules/fuse.ko; insmod /modules/virtiofs.ko; mount -t virtiofs files /mnt"
 TOLD = "console=ttyS0 quiet panic=-1 mitigations=off init_on_alloc=0 no_timer_check"
+# Writes to so much memory all the time that it is never all sent while the guest runs.
+DIRTIER = "(while [ ! -e /tmp/clean ]; do dd if=/dev/zero of=/tmp/dirty bs=1M count=8 conv=notrunc 2>/dev/null; done) &"
 
 
 def digest(data):

@@ -48,7 +48,8 @@ class Linux(Shell):
         words += ["con=null", f"con0=fd:{its.fileno()}", f"uml_dir={os.getcwd()}/", f"umid={name}.uml"]
         words += [f"virtio_uml.device={path}:{kind}" for path, kind in devices]
         with open(f"{name}.log", "wb") as log:
-            self.process = run(words, log, pass_fds=[its.fileno()])
+            # (its memory is a file there, of which a device takes none but one in memory)
+            self.process = run(words, log, pass_fds=[its.fileno()], env=dict(os.environ, TMPDIR="/dev/shm"))
         its.close()
         super().__init__(name, Stream(mine))
         self.hear(rb"#ready\r?\n")

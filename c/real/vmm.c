@@ -60,7 +60,7 @@ void connect_to(const char *path)
     enum covretin_error error;
     signal(SIGTERM, say_awaited);
     await("connect");
-    while ((error = covretin_connect(&device, path, 2, LIMIT)) == COVRETIN_SOCKET_CONNECT)
+    while ((error = covretin_connect(&device, path, MOST_RINGS, LIMIT)) == COVRETIN_SOCKET_CONNECT)
         nanosleep(&pause, NULL);
     if (error)
         stop(path, error);

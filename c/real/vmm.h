@@ -11,7 +11,7 @@
 
 /* Milliseconds for a call, and for what a device does: as long as it takes. Whoever runs the program limits it, by what is done
  * meanwhile, and ends it by SIGTERM. It then says what it waited for, and its status is 1. */
-enum { LIMIT = -1 };
+enum { LIMIT = -1, MOST_RINGS = 8 };
 
 /* What is waited for from now on. */
 void await(const char *what);

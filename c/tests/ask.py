@@ -182,9 +182,51 @@ def same_as_in_memory(room, program, daemon, run):
                 time.sleep(0.05)
             got = ask(program, path, LINES, f"--profile={profile}")
             same(serving.wait(), 0)
-        wanted = subprocess.run([run, "--comments", f"--profile={profile}"], input=LINES.encode(), capture_output=True, check=True).stdout.decode()
-        same(got, (0, wanted, ""))
+        ran = subprocess.run([run, "--comments", f"--profile={profile}"], input=LINES.encode(), capture_output=True, check=True)
+        wanted, why = ran.stdout.decode(), ran.stderr.decode()
+        same(got, (0, wanted, why))
+        same(why, "line 12: set_vring_num refused: there are 2 rings, from 0 on, and no ring 9\n")
         assert wanted.count("\n") == 24, wanted
+
+
+# Lines of which some are refused before anything is sent, and what is said to these: of a ring only where it is none.
+REFUSED = """# nothing was accepted yet
+get_features
+get_config 0x100 4 0
+
+set_vring_enable 0 1
+get_vring_base 0x5
+set_vring_num 02 256
+set_vring_call 1 1000
+get_features
+set_config 0x100 3 -
+"""
+REASONS = [
+    "line 3: get_config refused: CONFIG was not accepted",
+    "line 5: set_vring_enable refused: PROTOCOL_FEATURES was not accepted",
+    "line 6: get_vring_base refused: there are 2 rings, from 0 on, and no ring 5",
+    "line 7: set_vring_num refused: there are 2 rings, from 0 on, and no ring 2",
+]
+
+
+def reasons_of_refusals(room, program, _, run):
+    """What a call lacked, or which ring there is not, in memory and at a socket; what is printed stays as it is without."""
+    given = REFUSED.replace("1000", "event").replace("set_config 0x100 3 -\n", "")
+    status, output, errors, peer = asked(room, program, given)
+    answers = ["ok 0x40000001", "err InactiveOperation 0x200", "err InactiveFeature 0x40000000", "err InvalidParam", "err InvalidParam", "ok", "ok 0x40000001"]
+    same((status, answers_of(output), [code for code, _ in peer.asked]), (0, answers, [1, 13, 1]))
+    same(errors.splitlines(), [*REASONS[:2], *(f"{it}: --rings=N says how many, or get_queue_num" for it in REASONS[2:])])
+    same(asked(room, program, "set_vring_num 5 256\nset_vring_num 6 256\n", "--rings=6")[2].splitlines(),
+         ["line 2: set_vring_num refused: there are 6 rings, from 0 on, and no ring 6: --rings=N says how many, or get_queue_num"])
+    for words, said in (["--comments"], REASONS), (["--comments", "-q"], []), (["-q", "-v", "--comments"], REASONS):
+        ran = subprocess.run([run, "--profile=standard", *words], input=REFUSED.encode(), capture_output=True, check=False)
+        bad = ["line 10: bad call: word 4: no bytes" if said else "line 10: bad call"]
+        same((ran.returncode, answers_of(ran.stdout.decode().replace("0x40000003", "0x40000001"))), (1, answers))
+        same(ran.stderr.decode().splitlines(), said + bad)
+    # (the last line has no end, and what is long is no other line)
+    given = "get_features\nset_protocol_features 0x200\nset_config 0x100 0 " + "a5" * 4000 + "\nget_config 0 4085 0\nset_mtu 1"
+    ran = subprocess.run([run, "--comments", "--profile=standard"], input=given.encode(), capture_output=True, check=False)
+    same((ran.returncode, ran.stderr.decode()), (0, "line 5: set_mtu refused: MTU was not accepted\n"))
 
 
 def descriptors_of_each_form(room, program, *_):
@@ -296,7 +338,7 @@ def streams_that_fail(room, program, *_):
         same((ran.returncode, ran.stderr), (4, f"covretin-ask: {name}: Bad file descriptor\n".encode()))
 
 
-ROWS = [same_as_in_memory, descriptors_of_each_form, answers_with_descriptors, sessions_that_end, lines_that_are_no_call,
+ROWS = [same_as_in_memory, reasons_of_refusals, descriptors_of_each_form, answers_with_descriptors, sessions_that_end, lines_that_are_no_call,
         descriptors_that_cannot_be, wrong_arguments, streams_that_fail]
 
 

@@ -25,6 +25,10 @@ static const uint64_t both_features = COVRETIN_ASKED_PROTOCOL_FEATURES & COVRETI
 static int file, second_file; /* descriptors that are sent */
 static bool has_acks;         /* each request is acknowledged */
 
+#define SAMPLE_FD file
+#define SAMPLE_FEATURES both_features
+#include "samples.h"
+
 static void connect_both(void)
 {
     int ends[2];
@@ -132,62 +136,14 @@ static void expect_both(enum covretin_error (*asks)(void), uint32_t call, answer
     EXPECT(want, exchanged(asks(), call, refused));
 }
 
-/* -- Numbers -- */
+/* -- Requests that are acknowledged, of each form that needs nothing else: those of the table -- */
 
-static uint64_t number_of(void)
+static void expect_seen(uint64_t want)
 {
     uint64_t number = 0;
     EXPECT(COVRETIN_OK, covretin_call_number(backend, &number));
-    return number;
+    EXPECT(want, number);
 }
-
-static enum covretin_error ask_set_features(void)
-{
-    return covretin_ask_set_features(session, COVRETIN_FEATURE_PROTOCOL_FEATURES | 1);
-}
-
-static void sees_features(void)
-{
-    EXPECT(COVRETIN_FEATURE_PROTOCOL_FEATURES | 1, number_of());
-    done();
-}
-
-static enum covretin_error ask_set_mtu(void)
-{
-    return covretin_ask_set_mtu(session, 1500);
-}
-
-static void sees_mtu(void)
-{
-    EXPECT(1500, number_of());
-    done();
-}
-
-static enum covretin_error ask_reset_owner(void)
-{
-    return covretin_ask_reset_owner(session);
-}
-
-static enum covretin_error ask_reset_device(void)
-{
-    return covretin_ask_reset_device(session);
-}
-
-static void numbers(void)
-{
-    for (int acks = 0; acks < 2; acks++) {
-        negotiate_both(both_features, acks);
-        expect_number(covretin_ask_get_queue_num(session), COVRETIN_CALL_GET_QUEUE_NUM, RINGS);
-        expect_number(covretin_ask_get_max_mem_slots(session), COVRETIN_CALL_GET_MAX_MEM_SLOTS, 509);
-        expect_both(ask_set_features, COVRETIN_CALL_SET_FEATURES, sees_features);
-        expect_both(ask_set_mtu, COVRETIN_CALL_NET_SET_MTU, sees_mtu);
-        expect_both(ask_reset_owner, COVRETIN_CALL_RESET_OWNER, done);
-        expect_both(ask_reset_device, COVRETIN_CALL_RESET_DEVICE, done);
-        disconnect_both();
-    }
-}
-
-/* -- Rings -- */
 
 static void expect_ring(uint32_t want_index, uint32_t want_number)
 {
@@ -197,38 +153,86 @@ static void expect_ring(uint32_t want_index, uint32_t want_number)
     EXPECT(want_number, number);
 }
 
-static enum covretin_error ask_set_vring_num(void)
+/* What the device sees of each form. */
+static void sees_NOTHING(void)
 {
-    return covretin_ask_set_vring_num(session, 2, 256);
-}
-
-static void sees_num(void)
-{
-    expect_ring(2, 256);
     done();
 }
 
-static enum covretin_error ask_set_vring_base(void)
+static void sees_NUMBER(void)
 {
-    return covretin_ask_set_vring_base(session, 1, 4711);
-}
-
-static void sees_base(void)
-{
-    expect_ring(1, 4711);
+    expect_seen(SAMPLE_NUMBER);
     done();
 }
 
-static enum covretin_error ask_set_vring_enable(void)
+static void sees_PROTOCOL(void)
 {
-    return covretin_ask_set_vring_enable(session, 3, true);
-}
-
-static void sees_enable(void)
-{
-    expect_ring(3, 1);
+    expect_seen(SAMPLE_FEATURES);
     done();
 }
+
+static void sees_SHORT(void)
+{
+    expect_seen(SAMPLE_SHORT);
+    done();
+}
+
+static void sees_RING_NUMBER(void)
+{
+    expect_ring(SAMPLE_INDEX, SAMPLE_OF_RING);
+    done();
+}
+
+static void sees_RING_FLAG(void)
+{
+    expect_ring(SAMPLE_INDEX, true);
+    done();
+}
+
+/* The ring's descriptor comes, and is another number for the same file. */
+static void sees_RING_FD(void)
+{
+    uint32_t index = 99;
+    int32_t fd = -9;
+    EXPECT(COVRETIN_OK, covretin_call_ring_fd(backend, &index, &fd));
+    EXPECT(SAMPLE_INDEX, index);
+    EXPECT(true, fd != file && holds(fd, "first"));
+    done();
+}
+
+#define REQUEST(name, call, feature, takes, sees, replies, reply, fds) EACH_##reply(name, call, COVRETIN_PROTOCOL_##feature, takes)
+#define EACH_OWN(...)
+#define EACH_ACK(name, call, feature, takes) \
+    PLAIN_##takes(static enum covretin_error ask_##call(void) { return covretin_ask_##call(session TAKES_##takes); })
+#include "requests.def"
+
+/* (those of postcopy want others before them) */
+static void acknowledged(void)
+{
+    for (int acks = 0; acks < 2; acks++) {
+        negotiate_both(both_features, acks);
+#define REQUEST(name, call, feature, takes, sees, replies, reply, fds) EACH_##reply(name, call, COVRETIN_PROTOCOL_##feature, takes)
+#undef EACH_ACK
+#define EACH_ACK(name, call, feature, takes) \
+    PLAIN_##takes(if ((feature) != COVRETIN_PROTOCOL_PAGEFAULT) expect_both(ask_##call, COVRETIN_CALL_##name, sees_##takes);)
+#include "requests.def"
+        disconnect_both();
+    }
+}
+
+/* -- Numbers -- */
+
+static void numbers(void)
+{
+    for (int acks = 0; acks < 2; acks++) {
+        negotiate_both(both_features, acks);
+        expect_number(covretin_ask_get_queue_num(session), COVRETIN_CALL_GET_QUEUE_NUM, RINGS);
+        expect_number(covretin_ask_get_max_mem_slots(session), COVRETIN_CALL_GET_MAX_MEM_SLOTS, 509);
+        disconnect_both();
+    }
+}
+
+/* -- Rings -- */
 
 static const covretin_vring place = {.flags = 1,
                                      .desc_table_addr = 0x7f0000001000,
@@ -263,17 +267,6 @@ static void stops(void)
     EXPECT(COVRETIN_OK, covretin_reply_ring(backend, 1, 77));
 }
 
-/* The ring's descriptor comes, and is another number for the same file. */
-static void sees_ring_fd(void)
-{
-    uint32_t index = 99;
-    int32_t fd = -9;
-    EXPECT(COVRETIN_OK, covretin_call_ring_fd(backend, &index, &fd));
-    EXPECT(1, index);
-    EXPECT(true, fd != file && holds(fd, "first"));
-    done();
-}
-
 static void sees_no_ring_fd(void)
 {
     uint32_t index = 99;
@@ -282,21 +275,6 @@ static void sees_no_ring_fd(void)
     EXPECT(3, index);
     EXPECT(-1, fd);
     done();
-}
-
-static enum covretin_error ask_set_vring_kick(void)
-{
-    return covretin_ask_set_vring_kick(session, 1, file);
-}
-
-static enum covretin_error ask_set_vring_call(void)
-{
-    return covretin_ask_set_vring_call(session, 1, file);
-}
-
-static enum covretin_error ask_set_vring_err(void)
-{
-    return covretin_ask_set_vring_err(session, 1, file);
 }
 
 static enum covretin_error ask_set_no_vring_call(void)
@@ -309,13 +287,7 @@ static void rings(void)
     for (int acks = 0; acks < 2; acks++) {
         uint64_t number = 0;
         negotiate_both(both_features, acks);
-        expect_both(ask_set_vring_num, COVRETIN_CALL_SET_VRING_NUM, sees_num);
-        expect_both(ask_set_vring_base, COVRETIN_CALL_SET_VRING_BASE, sees_base);
         expect_both(ask_set_vring_addr, COVRETIN_CALL_SET_VRING_ADDR, sees_addr);
-        expect_both(ask_set_vring_enable, COVRETIN_CALL_SET_VRING_ENABLE, sees_enable);
-        expect_both(ask_set_vring_kick, COVRETIN_CALL_SET_VRING_KICK, sees_ring_fd);
-        expect_both(ask_set_vring_call, COVRETIN_CALL_SET_VRING_CALL, sees_ring_fd);
-        expect_both(ask_set_vring_err, COVRETIN_CALL_SET_VRING_ERR, sees_ring_fd);
         expect_both(ask_set_no_vring_call, COVRETIN_CALL_SET_VRING_CALL, sees_no_ring_fd);
         EXPECT(COVRETIN_OK, exchanged(covretin_ask_get_vring_base(session, 1), COVRETIN_CALL_GET_VRING_BASE, stops));
         EXPECT(COVRETIN_OK, covretin_answer_number(session, &number));
@@ -712,16 +684,16 @@ static void postcopy_out_of_order(void)
  * session has others in mind. */
 static void lacks_features(void)
 {
-    const uint64_t offered = both_features & ~COVRETIN_PROTOCOL_MTU;
+    const uint64_t offered = both_features & ~COVRETIN_PROTOCOL_RESET_DEVICE;
     uint32_t call = 0;
     short events;
     negotiate_both(offered, true);
-    EXPECT(COVRETIN_INACTIVE_OPERATION, covretin_ask_set_mtu(session, 1500));
-    EXPECT(COVRETIN_PROTOCOL_MTU, covretin_inactive(session));
-    const uint8_t text[20] = {20, 0, 0, 0, 9, 0, 0, 0, 8, 0, 0, 0, 0xdc, 5};
+    EXPECT(COVRETIN_INACTIVE_OPERATION, covretin_ask_reset_device(session));
+    EXPECT(COVRETIN_PROTOCOL_RESET_DEVICE, covretin_inactive(session));
+    const uint8_t text[12] = {34, 0, 0, 0, 9};
     say(covretin_connection_fd(&device), text, sizeof text, NULL, 0);
     EXPECT(COVRETIN_INACTIVE_OPERATION, covretin_next_call_nowait(&service, &call, &events));
-    EXPECT(COVRETIN_PROTOCOL_MTU, covretin_backend_inactive(backend));
+    EXPECT(COVRETIN_PROTOCOL_RESET_DEVICE, covretin_backend_inactive(backend));
     EXPECT(0, call);
     EXPECT(false, covretin_service_ended(&service));
     covretin_disconnect(&device);
@@ -732,6 +704,7 @@ static void lacks_features(void)
 
 int main(void)
 {
+    RUN(acknowledged);
     RUN(numbers);
     RUN(rings);
     RUN(memory);

@@ -46,20 +46,31 @@ static void offer(uint16_t at, uint32_t room, bool is_split)
     kick(queue);
 }
 
-/* Sends a frame of so many bytes, or of a header that is cut, and has it back once the card is done with it. */
-static void send_frame(uint32_t size, unsigned round)
+/* Makes a frame of so many bytes, or of a header that is cut, available in two descriptors. */
+static void post_frame(uint16_t at, uint32_t size, unsigned round)
 {
-    uint8_t *buffer = buffer_of(1, 0);
-    struct used_element used;
+    uint8_t *buffer = buffer_of(1, at);
     memset(buffer, 0x77, HEADER);
     for (size_t i = 0; i < size && i < PAGE - HEADER; i++)
         buffer[HEADER + i] = byte_of(i, round);
-    queues[1].descriptors[0] = (struct descriptor){guest_address(&memory, buffer), HEADER, DESCRIPTOR_NEXT, 1};
-    queues[1].descriptors[1] = (struct descriptor){guest_address(&memory, buffer + HEADER), size, 0, 0};
-    post(&queues[1], 0);
-    kick(&queues[1]);
+    queues[1].descriptors[at] = (struct descriptor){guest_address(&memory, buffer), HEADER, DESCRIPTOR_NEXT, (uint16_t)(at + 1)};
+    queues[1].descriptors[at + 1] = (struct descriptor){guest_address(&memory, buffer + HEADER), size, 0, 0};
+    post(&queues[1], at);
+}
+
+static void check_given_back(uint16_t at)
+{
+    struct used_element used;
     take(&queues[1], &used, "what was sent is given back");
-    check(used.head == 0 && used.length == 0, "nothing of it was written");
+    check(used.head == at && used.length == 0, "nothing of it was written");
+}
+
+/* Sends a frame, and has it back once the card is done with it. */
+static void send_frame(uint32_t size, unsigned round)
+{
+    post_frame(0, size, round);
+    kick(&queues[1]);
+    check_given_back(0);
 }
 
 /* A frame of so many bytes came into this buffer. */
@@ -90,6 +101,26 @@ static void frames_come_back(void)
         send_frame(size, round);
         check_came((uint16_t)(round % 8), size, round);
     }
+}
+
+/* Frames that are there at once come in their order. What is none among them is dropped, and so are those for which there is no buffer. */
+static void frames_come_back_together(void)
+{
+    const uint32_t sizes[] = {60, 13, 1518, 64};
+    offer(0, ROOM, true);
+    offer(2, HEADER + 60, false);
+    offer(4, ROOM, false);
+    for (uint16_t i = 0; i < 4; i++)
+        post_frame((uint16_t)(2 * i), sizes[i], i);
+    kick(&queues[1]);
+    for (uint16_t i = 0; i < 4; i++)
+        check_given_back((uint16_t)(2 * i));
+    check_came(0, 60, 0);
+    struct used_element used;
+    take(&queues[0], &used, "a buffer that is too small comes back");
+    check(used.head == 2 && used.length == 0, "empty");
+    check_came(4, 1518, 2);
+    check_nothing_came();
 }
 
 /* Without a buffer a frame is dropped; it does not come once there is one. */
@@ -172,6 +203,7 @@ int main(int argc, char **argv)
         start_ring(&queues[i], 0);
     }
     frames_come_back();
+    frames_come_back_together();
     frames_without_a_buffer_are_dropped();
     other_lengths_are_dropped();
     small_buffers_come_back_empty();

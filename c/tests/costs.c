@@ -1,5 +1,5 @@
 /* SPDX-License-Identifier: Apache-2.0 */
-/* Each call of each session, without a socket: scripts/call_costs.py counts what the library does for it. A line for each part of a call
+/* Each call of each session, without a socket: scripts/costs/costs.py calls counts what the library does for it. A line for each part of a call
  * that is counted: the session's name, and the call's. */
 #include "covretin_backend.h"
 #include "covretin_channel.h"
@@ -149,6 +149,11 @@ static void make(const struct call *call, bool is_counted)
 
 enum { FEATURES = 0x44000001, FD = 7, OTHER_FD = 9, CONFIG = 256 };
 static const uint64_t protocol_features = COVRETIN_ASKED_PROTOCOL_FEATURES & COVRETIN_SERVED_PROTOCOL_FEATURES;
+
+#define SAMPLE_FD FD
+#define SAMPLE_FEATURES protocol_features
+#include "samples.h"
+
 static const covretin_vring ring = {.queue_max_size = 256, .queue_size = 256, .desc_table_addr = 0x1000, .used_ring_addr = 0x2000, .avail_ring_addr = 0x3000};
 static const covretin_region log_region = {.memory_size = 0x3000, .fd = FD};
 static const covretin_inflight area = {.mmap_size = 0x5000, .num_queues = 3, .queue_size = 256};
@@ -167,6 +172,7 @@ static covretin_config a_config;
 static uint8_t some_bytes[COVRETIN_MAX_MESSAGE];
 
 #define DONE covretin_reply_done(&back)
+#define SEES_NOTHING DONE
 #define SEES_NUMBER (covretin_call_number(&back, &a_number), DONE)
 #define SEES_RING (covretin_call_ring(&back, &index_of, &number_of), DONE)
 #define SEES_RING_FD (covretin_call_ring_fd(&back, &index_of, &a_fd), DONE)
@@ -184,14 +190,7 @@ static uint8_t some_bytes[COVRETIN_MAX_MESSAGE];
 #define CALLS(X) \
     X(get_queue_num, covretin_ask_get_queue_num(&front), covretin_reply_number(&back, 4)) \
     X(get_max_mem_slots, covretin_ask_get_max_mem_slots(&front), covretin_reply_number(&back, 509)) \
-    X(set_mtu, covretin_ask_set_mtu(&front, 1500), SEES_NUMBER) \
-    X(set_vring_num, covretin_ask_set_vring_num(&front, 2, 256), SEES_RING) \
-    X(set_vring_base, covretin_ask_set_vring_base(&front, 1, 4711), SEES_RING) \
     X(set_vring_addr, covretin_ask_set_vring_addr(&front, 1, &ring), (covretin_call_vring(&back, &index_of, &a_ring), DONE)) \
-    X(set_vring_enable, covretin_ask_set_vring_enable(&front, 1, true), SEES_RING) \
-    X(set_vring_kick, covretin_ask_set_vring_kick(&front, 1, FD), SEES_RING_FD) \
-    X(set_vring_call, covretin_ask_set_vring_call(&front, 1, FD), SEES_RING_FD) \
-    X(set_vring_err, covretin_ask_set_vring_err(&front, 1, FD), SEES_RING_FD) \
     X(get_vring_base, covretin_ask_get_vring_base(&front, 1), (covretin_call_ring(&back, &index_of, &number_of), covretin_reply_ring(&back, 1, 77))) \
     X(set_mem_table_8, covretin_ask_set_mem_table(&front, regions, 8), SEES_REGIONS) \
     X(add_mem_region, covretin_ask_add_mem_region(&front, regions), SEES_REGIONS) \
@@ -205,9 +204,7 @@ static uint8_t some_bytes[COVRETIN_MAX_MESSAGE];
     X(set_inflight_fd, covretin_ask_set_inflight_fd(&front, &area, FD), (covretin_call_inflight(&back, &an_area, &a_fd), DONE)) \
     X(get_shmem_config, covretin_ask_get_shmem_config(&front), covretin_reply_shmem(&back, sizes, 256, 1)) \
     X(set_device_state_fd, covretin_ask_set_device_state_fd(&front, 0, 0, FD), (covretin_call_transfer(&back, &index_of, &number_of, &a_fd), covretin_reply_fd(&back, -1))) \
-    X(check_device_state, covretin_ask_check_device_state(&front), DONE) \
-    X(reset_owner, covretin_ask_reset_owner(&front), DONE) \
-    X(reset_device, covretin_ask_reset_device(&front), DONE)
+    X(check_device_state, covretin_ask_check_device_state(&front), DONE)
 /* A session does these once. */
 #define POSTCOPY_CALLS(X) \
     X(postcopy_advise, covretin_ask_postcopy_advise(&front), covretin_reply_fd(&back, OTHER_FD)) \
@@ -220,6 +217,32 @@ FIRST_CALLS(DEFINE)
 CALLS(DEFINE)
 POSTCOPY_CALLS(DEFINE)
 static const struct call first_calls[] = {FIRST_CALLS(ROW)}, calls[] = {CALLS(ROW)}, postcopy_calls[] = {POSTCOPY_CALLS(ROW)};
+
+/* Those of the table that are acknowledged, each of a form that needs nothing else. (each before has a name of its own) */
+#define REQUEST(name, call, feature, takes, sees, replies, reply, fds) EACH_##reply(call, takes, sees)
+#define EACH_OWN(...)
+#define EACH_ACK(call, takes, sees) PLAIN_##takes(DEFINE(plain_##call, covretin_ask_##call(&front TAKES_##takes), SEES_##sees))
+#include "requests.def"
+#undef EACH_ACK
+#define EACH_ACK(call, takes, sees) PLAIN_##takes({#call, asked_plain_##call, answered_plain_##call, NULL},)
+#define REQUEST(name, call, feature, takes, sees, replies, reply, fds) EACH_##reply(call, takes, sees)
+static const struct call plain_calls[] = {
+#include "requests.def"
+};
+
+static bool is_among(const struct call *call, const struct call *others, size_t count)
+{
+    while (count != 0 && strcmp(call->name, others[count - 1].name) != 0)
+        count--;
+    return count != 0;
+}
+
+/* Whether a call of the table stands above, since it wants others before it. */
+static bool is_above(const struct call *call)
+{
+    return is_among(call, first_calls, sizeof first_calls / sizeof *first_calls) ||
+           is_among(call, postcopy_calls, sizeof postcopy_calls / sizeof *postcopy_calls);
+}
 
 TRANSPORT_BYTES(front, covretin)
 TRANSPORT_CALL(front_abandon, covretin_abandon)
@@ -246,6 +269,9 @@ static void count_both(int turn)
     check(first_calls, covretin_set_hdr_flags(&front, COVRETIN_NEED_REPLY));
     for (size_t i = 0; i < sizeof calls / sizeof *calls; i++)
         make(&calls[i], turn == 2);
+    for (size_t i = 0; i < sizeof plain_calls / sizeof *plain_calls; i++)
+        if (!is_above(&plain_calls[i]))
+            make(&plain_calls[i], turn == 2);
     for (size_t i = 0; turn == 2 && i < sizeof postcopy_calls / sizeof *postcopy_calls; i++)
         make(&postcopy_calls[i], true);
 }

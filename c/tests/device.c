@@ -13,6 +13,7 @@
 #include <fcntl.h>
 #include <poll.h>
 #include <pthread.h>
+#include <sched.h>
 #include <signal.h>
 #include <stdatomic.h>
 #include <stdio.h>
@@ -176,6 +177,31 @@ static void on_request_that_takes(void *own, covretin_request *request)
     if (buffer != NULL)
         covretin_request_done(buffer, (uint32_t)covretin_request_write(buffer, "taken", 5));
     covretin_request_done(request, (uint32_t)covretin_request_write(request, buffer != NULL ? "yes" : "not", 3));
+}
+
+/* What it got at once, of a table that has `requests`: how many each time. It is done with all of them by one call, if it does not keep them. */
+static struct {
+    size_t counts[MOST_KEPT], bursts;
+} got;
+
+static void on_requests(void *own, covretin_request *const *requests, size_t count)
+{
+    uint32_t written[COVRETIN_DEVICE_BURST] = {0};
+    bool keeps;
+    EXPECT(true, own == &its && count != 0 && count <= COVRETIN_DEVICE_BURST);
+    pthread_mutex_lock(&its.lock);
+    for (size_t i = 0; i < count; i++)
+        written[i] = (uint32_t)covretin_request_write(requests[i], "all", 3);
+    keeps = its.keeps && its.kept_count + count <= MOST_KEPT;
+    if (keeps)
+        memcpy(&its.kept[its.kept_count], requests, count * sizeof *requests);
+    its.kept_count += keeps ? count : 0;
+    if (got.bursts < MOST_KEPT)
+        got.counts[got.bursts++] = count;
+    its.served += count;
+    pthread_mutex_unlock(&its.lock);
+    if (!keeps)
+        covretin_requests_done(requests, written, count);
 }
 
 static const covretin_device_calls calls = {.features = COVRETIN_DEVICE_RING_PACKED | 1,
@@ -636,6 +662,164 @@ static void completes_later(void)
     pthread_join(thread, NULL);
     end();
     free_queue(&queue);
+    free_memory();
+}
+
+/* A table whose requests come by many, and whose first so many queues it takes of. */
+static covretin_device_calls bursts_of(uint64_t taken_queues)
+{
+    covretin_device_calls table = calls;
+    table.request = NULL;
+    table.requests = on_requests;
+    table.taken_queues = taken_queues;
+    memset(&got, 0, sizeof got);
+    return table;
+}
+
+/* Makes so many requests available, of one descriptor each, before the device hears of any. */
+static void post_many(struct queue *queue, uint16_t from, uint16_t count)
+{
+    for (uint16_t head = from; head < from + count; head++) {
+        put(queue, head, GUEST + BUFFERS + queue->index * 0x8000 + head * 0x100u, 0x80, WRITE, 0);
+        post_without_kick(queue, head);
+    }
+    if (eventfd_write(queue->kick, 1))
+        give_up("kick");
+}
+
+/* The driver was signalled so often since this was last asked. */
+static void expect_signals(int fd, eventfd_t wanted)
+{
+    eventfd_t count = 0;
+    EXPECT(0, eventfd_read(fd, &count));
+    EXPECT(wanted, count);
+}
+
+/* What is there already is handed out at once, and its driver told of all by one signal: of a queue, and of many that are completed together. */
+static void serves_bursts(void)
+{
+    const covretin_device_calls table = bursts_of(0);
+    const uint32_t written[MOST_KEPT] = {0};
+    begin(&table);
+    negotiate(0);
+    make_memory();
+    give_memory();
+    struct queue first = make_queue(0), second = make_queue(1);
+    start(&first, 0);
+    start(&second, 0);
+    post_many(&first, 2, 14);
+    for (uint16_t head = 2; head < 16; head++)
+        expect_used(&first, head, 3);
+    EXPECT(true, got.bursts == 1 && got.counts[0] == 14);
+    EXPECT(true, is_signalled(first.call, LIMIT));
+    EXPECT(false, is_signalled(first.call, 50));
+    EXPECT(0, memcmp(memory + BUFFERS + 15 * 0x100, "all", 3));
+    its.keeps = true;
+    post_many(&first, 0, 5);
+    wait_for(&its.kept_count, 5);
+    post_many(&second, 3, 2);
+    wait_for(&its.kept_count, 7);
+    post_many(&first, 8, 1);
+    wait_for(&its.kept_count, 8);
+    covretin_requests_done(its.kept, written, 8); /* those of the first queue lie at both ends of the list */
+    for (uint16_t head = 0; head < 5; head++)
+        expect_used(&first, head, 0);
+    expect_used(&first, 8, 0);
+    expect_used(&second, 3, 0);
+    expect_used(&second, 4, 0);
+    expect_signals(first.call, 2);
+    expect_signals(second.call, 1);
+    EXPECT(20, number(covretin_ask_get_vring_base(&vmm.session, 0)));
+    EXPECT(2, number(covretin_ask_get_vring_base(&vmm.session, 1)));
+    end();
+    free_queue(&first);
+    free_queue(&second);
+    free_memory();
+}
+
+/* At most COVRETIN_DEVICE_BURST are handed out at once. Those before one that breaks a rule are the device's. */
+static void a_burst_has_an_end(void)
+{
+    const covretin_device_calls table = bursts_of(0);
+    begin(&table);
+    negotiate(0);
+    make_memory();
+    give_memory();
+    struct queue queue = make_queue(0);
+    covretin_vring place = place_of(&queue, 0);
+    DONE(covretin_ask_set_vring_num(&vmm.session, 0, 64));
+    DONE(covretin_ask_set_vring_addr(&vmm.session, 0, &place));
+    DONE(covretin_ask_set_vring_call(&vmm.session, 0, queue.call));
+    DONE(covretin_ask_set_vring_err(&vmm.session, 0, queue.error));
+    for (uint16_t at = 0; at < 60; at++) {
+        put(&queue, at, at < 50 ? GUEST + BUFFERS + at * 0x100u : 0, 0x80, WRITE, 0);
+        *word_at(&queue, 1, 4 + at * 2u) = at;
+    }
+    *word_at(&queue, 1, 2) = 60;
+    DONE(covretin_ask_set_vring_kick(&vmm.session, 0, queue.kick));
+    DONE(covretin_ask_set_vring_enable(&vmm.session, 0, true));
+    wait_for(&its.broken, 1);
+    EXPECT(COVRETIN_QUEUE_NOT_IN_GUEST, its.why_broken);
+    EXPECT(50, its.served);
+    EXPECT(true, got.bursts == 2 && got.counts[0] == COVRETIN_DEVICE_BURST && got.counts[1] == 50 - COVRETIN_DEVICE_BURST);
+    EXPECT(50, *word_at(&queue, 2, 2));
+    expect_signals(queue.call, 2);
+    expect_signals(queue.error, 1);
+    end();
+    free_queue(&queue);
+    free_memory();
+}
+
+static covretin_request *many[MOST_KEPT];
+static size_t many_count;
+
+/* It takes of the first queue as many as there are, but for 4 at most, each time that it has a request of the second one. */
+static void on_requests_that_take(void *own, covretin_request *const *requests, size_t count)
+{
+    const uint32_t written[4] = {1, 2, 3, 4};
+    (void)own;
+    EXPECT(1, count);
+    many_count = covretin_requests_take(requests[0], 0, many, 4);
+    EXPECT(0, covretin_requests_take(requests[0], 1, many + 4, 4)); /* they are handed out */
+    EXPECT(0, covretin_requests_take(requests[0], 3, many + 4, 4));
+    covretin_requests_done(many, written, many_count);
+    covretin_requests_done(requests, written, count);
+    covretin_requests_done(NULL, NULL, 0);
+}
+
+/* Where the fifth of six is none, the others are taken, the queue is broken, and that is told. */
+static void takes_bursts_of_a_queue(void)
+{
+    covretin_device_calls table = bursts_of(1);
+    table.requests = on_requests_that_take;
+    begin(&table);
+    negotiate(0);
+    make_memory();
+    give_memory();
+    struct queue first = make_queue(0), second = make_queue(1);
+    start(&first, 0);
+    start(&second, 0);
+    post_many(&second, 0, 1);
+    expect_used(&second, 0, 1);
+    EXPECT(0, many_count);
+    post_many(&first, 0, 7);
+    put(&first, 6, 0, 4, WRITE, 0);
+    post_many(&second, 1, 1);
+    expect_used(&second, 1, 1);
+    EXPECT(4, many_count);
+    for (uint16_t head = 0; head < 4; head++)
+        expect_used(&first, head, head + 1u);
+    expect_signals(first.call, 1);
+    post_many(&second, 2, 1);
+    expect_used(&second, 2, 1);
+    EXPECT(2, many_count);
+    expect_used(&first, 4, 1);
+    expect_used(&first, 5, 2);
+    wait_for(&its.broken, 1);
+    EXPECT(COVRETIN_QUEUE_NOT_IN_GUEST, its.why_broken);
+    end();
+    free_queue(&first);
+    free_queue(&second);
     free_memory();
 }
 
@@ -1187,6 +1371,35 @@ static void expect_packed(const struct queue *queue, uint16_t at, uint16_t id, u
     EXPECT(0, memcmp(memory + BUFFERS + from * 0x100u + 0x80, "PACKED", 6));
 }
 
+/* Requests of a packed ring that are completed together: the driver sees the first one last. One of DPDK's says the place of what is available
+ * alone, and 0 in the place of what is used: that is the same, since nothing is under way. */
+static void serves_bursts_of_a_packed_queue(void)
+{
+    const covretin_device_calls table = bursts_of(0);
+    begin(&table);
+    negotiate(COVRETIN_DEVICE_RING_PACKED);
+    make_memory();
+    give_memory();
+    struct queue queue = make_queue(0);
+    DONE(covretin_ask_set_vring_base(&vmm.session, 0, 0x8000));
+    for (uint16_t at = 0; at < 6; at++)
+        put(&queue, at, GUEST + BUFFERS + at * 0x100u, 0x80, (uint16_t)(7 - at), 0x80 | WRITE);
+    start_packed(&queue);
+    wait_for(&its.served, 6);
+    EXPECT(true, got.bursts == 1 && got.counts[0] == 6);
+    for (uint16_t at = 0; at < 6; at++) {
+        EXPECT(0x8080, *word_at(&queue, 0, at * 16u + 14) & 0x8080);
+        EXPECT(7 - at, *word_at(&queue, 0, at * 16u + 12));
+        EXPECT(3, *word_at(&queue, 0, at * 16u + 8));
+    }
+    EXPECT(true, is_signalled(queue.call, LIMIT));
+    EXPECT(false, is_signalled(queue.call, 50));
+    EXPECT(0x80068006, number(covretin_ask_get_vring_base(&vmm.session, 0)));
+    end();
+    free_queue(&queue);
+    free_memory();
+}
+
 /* The same of a packed ring, in which the request that was used first has overwritten a descriptor of one that is under way. Then a device
  * ends before it told of what it used, in the middle of the region's writes. */
 static void goes_on_in_a_packed_ring(void)
@@ -1280,9 +1493,13 @@ static void a_packed_ring_moves(void)
     free_memory();
 }
 
-/* Regions come and go while a request is under way, whose bytes stay; one that lies nowhere breaks its queue, until a reset. */
+/* Regions come and go while a request is under way, whose bytes stay; one that lies nowhere breaks its queue, until a reset. The same region may
+ * be given many times, as QEMU before 8.1 does for each pair of queues, and goes once it was taken back as often. */
 static void regions_come_and_go(void)
 {
+    int file = memfd_create("other", MFD_CLOEXEC);
+    if (file < 0 || ftruncate(file, SIZE))
+        give_up("memfd_create");
     begin(&calls);
     negotiate(0);
     make_memory();
@@ -1292,11 +1509,20 @@ static void regions_come_and_go(void)
     DONE(covretin_ask_add_mem_region(&vmm.session, &rings));
     DONE(covretin_ask_add_mem_region(&vmm.session, &buffers));
     REFUSED(covretin_ask_add_mem_region(&vmm.session, &odd)); /* it overlaps */
+    covretin_region other = buffers;
+    other.fd = file;
+    REFUSED(covretin_ask_add_mem_region(&vmm.session, &other)); /* of another file */
+    for (uint32_t i = 0; i < calls.queues; i++)
+        DONE(covretin_ask_add_mem_region(&vmm.session, &buffers));
+    REFUSED(covretin_ask_add_mem_region(&vmm.session, &buffers)); /* more often than there are queues */
     start(&queue, 0);
     its.keeps = true;
     write_request(&queue, 0, "kept");
     post(&queue, 0);
     wait_for(&its.kept_count, 1);
+    for (uint32_t i = 0; i < calls.queues; i++)
+        DONE(covretin_ask_remove_mem_region(&vmm.session, &buffers));
+    REFUSED(covretin_ask_add_mem_region(&vmm.session, &odd)); /* it is there still */
     DONE(covretin_ask_remove_mem_region(&vmm.session, &buffers));
     REFUSED(covretin_ask_remove_mem_region(&vmm.session, &buffers));
     answer(its.kept[0]);
@@ -1309,6 +1535,7 @@ static void regions_come_and_go(void)
     end();
     free_queue(&queue);
     free_memory();
+    close(file);
 }
 
 /* The two regions, at whose border buffers lie: a text, and room for it. */
@@ -1566,6 +1793,27 @@ static void refuses_other_files(void)
     free_memory();
 }
 
+/* A queue may be as large as the device says, and no larger. */
+static void takes_no_larger_queue(void)
+{
+    covretin_device_calls small = calls;
+    small.max_queue_size = QUEUE_SIZE;
+    begin(&small);
+    negotiate(0);
+    make_memory();
+    give_memory();
+    struct queue queue = make_queue(0);
+    REFUSED(covretin_ask_set_vring_num(&vmm.session, 0, 2 * QUEUE_SIZE));
+    REFUSED(covretin_ask_set_vring_num(&vmm.session, 0, 0));
+    start(&queue, 0);
+    write_request(&queue, 0, "small");
+    post(&queue, 0);
+    expect_used(&queue, 0, 5);
+    end();
+    free_queue(&queue);
+    free_memory();
+}
+
 static void has_a_configuration(void)
 {
     uint8_t bytes[4] = {1, 2, 3, 4}, read[4] = {0};
@@ -1674,6 +1922,16 @@ static void polls_a_ring_without_a_kick(void)
     free_memory();
 }
 
+/* Posts a request again and again, until the driver is told that it need not kick. */
+static void post_until_polled(struct queue *queue, uint32_t len)
+{
+    for (int i = 0; i < LIMIT && __atomic_load_n(word_at(queue, 2, 0), __ATOMIC_ACQUIRE) == 0; i++) {
+        post(queue, 0);
+        expect_used(queue, 0, len);
+        usleep(1000);
+    }
+}
+
 /* A driver that is quick need not kick, and is told so; it is as quick as the device says. */
 static void polls_a_quick_driver(void)
 {
@@ -1686,11 +1944,7 @@ static void polls_a_quick_driver(void)
     struct queue queue = make_queue(0);
     start(&queue, 0);
     write_request(&queue, 0, "quick");
-    for (int i = 0; i < LIMIT && __atomic_load_n(word_at(&queue, 2, 0), __ATOMIC_ACQUIRE) == 0; i++) {
-        post(&queue, 0);
-        expect_used(&queue, 0, 5);
-        usleep(1000);
-    }
+    post_until_polled(&queue, 5);
     for (int i = 0; i < 300; i++) {
         EXPECT(1, *word_at(&queue, 2, 0)); /* no kick is wanted */
         post_without_kick(&queue, 0);
@@ -1700,6 +1954,58 @@ static void polls_a_quick_driver(void)
     end_as(COVRETIN_STOPPED);
     free_queue(&queue);
     free_memory();
+}
+
+/* Waits until the driver of a ring is told to kick, 0, or not to, 1. */
+static void wait_for_flags(const struct queue *queue, uint16_t wanted)
+{
+    for (int i = 0; i < LIMIT && __atomic_load_n(word_at(queue, 2, 0), __ATOMIC_ACQUIRE) != wanted; i++)
+        usleep(1000);
+    EXPECT(wanted, *word_at(queue, 2, 0));
+}
+
+/* This thread, and those that it begins, use one processor alone. What they could use before. */
+static cpu_set_t keep_to_one_processor(void)
+{
+    cpu_set_t all, one;
+    int processor = 0;
+    EXPECT(0, sched_getaffinity(0, sizeof all, &all));
+    while (!CPU_ISSET(processor, &all))
+        processor++;
+    CPU_ZERO(&one);
+    CPU_SET(processor, &one);
+    EXPECT(0, sched_setaffinity(0, sizeof one, &one));
+    return all;
+}
+
+/* Where there is one processor alone, a ring is not looked at while the device has a request of it, and is once that is given back. */
+static void leaves_the_only_processor(void)
+{
+    covretin_device_calls polling = calls;
+    cpu_set_t all = keep_to_one_processor();
+    polling.busy_poll_us = UINT32_MAX;
+    begin(&polling);
+    negotiate(0);
+    make_memory();
+    give_memory();
+    struct queue queue = make_queue(0);
+    start(&queue, 0);
+    write_request(&queue, 0, "alone");
+    post_until_polled(&queue, 5);
+    its.keeps = true;
+    for (size_t i = 0; i < 3; i++) {
+        post_without_kick(&queue, 0);
+        wait_for(&its.kept_count, i + 1);
+        wait_for_flags(&queue, 0);
+        answer(its.kept[i]);
+        expect_used(&queue, 0, 5);
+        wait_for_flags(&queue, 1);
+    }
+    covretin_device_stop(&device);
+    end_as(COVRETIN_STOPPED);
+    free_queue(&queue);
+    free_memory();
+    EXPECT(0, sched_setaffinity(0, sizeof all, &all));
 }
 
 /* One that is late is waited for. */
@@ -1876,11 +2182,13 @@ static void refuses_tables(void)
 {
     covretin_device_calls none = {.queues = 1}, many = {.queues = COVRETIN_DEVICE_MAX_QUEUES + 1, .request = on_request};
     covretin_device_calls later = {.queues = 1, .request = on_request, .later = {0, 1}};
+    covretin_device_calls large = {.queues = 1, .request = on_request, .max_queue_size = COVRETIN_DEVICE_MAX_QUEUE_SIZE + 1};
     covretin_listener listener = {0};
     int file = memfd_create("none", MFD_CLOEXEC);
     EXPECT(COVRETIN_INVALID_PARAM, covretin_device_open_fd(&device, &none, NULL, file));
     EXPECT(COVRETIN_INVALID_PARAM, covretin_device_open_fd(&device, &many, NULL, file));
     EXPECT(COVRETIN_INVALID_PARAM, covretin_device_open_fd(&device, &later, NULL, file));
+    EXPECT(COVRETIN_INVALID_PARAM, covretin_device_open_fd(&device, &large, NULL, file));
     EXPECT(COVRETIN_INVALID_PARAM, covretin_device_run(&none, NULL, "")); /* before its path is looked at */
     EXPECT(COVRETIN_INVALID_SOCKET_FD, covretin_device_open_fd(&device, &calls, NULL, file));
     EXPECT(COVRETIN_NO_SESSION, covretin_device_open(&device, &calls, NULL, &listener));
@@ -1953,8 +2261,8 @@ static void gives_other_requests(void)
     EXPECT(0, counted.refusals);
     EXPECT(1, acknowledged(600, -1));
     EXPECT(600, its.other);
+    EXPECT(3, number(covretin_ask_get_queue_num(&vmm.session))); /* (what is refused is counted once that was said) */
     EXPECT(1, counted.refusals);
-    EXPECT(3, number(covretin_ask_get_queue_num(&vmm.session)));
     end();
     close(its.other_copy);
     close(memory_fd);
@@ -1964,6 +2272,55 @@ static void gives_other_requests(void)
     EXPECT(1, acknowledged(19, -1));
     EXPECT(0, its.other);
     end();
+}
+
+/* Sends a request whose body is a number, or nothing. */
+static void send_bare(int socket, uint32_t request, uint32_t flags, uint32_t size, uint64_t number)
+{
+    uint32_t whole[5] = {request, 1 | flags, size, (uint32_t)number, (uint32_t)(number >> 32)};
+    EXPECT(12 + size, send(socket, whole, 12 + size, 0));
+}
+
+/* How many bytes are there to be read. */
+static int unread(int socket)
+{
+    int count = -1;
+    EXPECT(0, ioctl(socket, FIONREAD, &count));
+    return count;
+}
+
+/* A refusal is counted before its acknowledgement is sent, so that whoever has read this sees the new count. Here the acknowledgement finds no
+ * room. */
+static void counts_a_refusal_before_it_is_told(void)
+{
+    static const uint8_t filling[4096];
+    covretin_device_stats counted = {0};
+    covretin_device_calls table = calls;
+    int ends[2], same = -1, before;
+    table.stats = &counted;
+    if (socketpair(AF_UNIX, SOCK_STREAM | SOCK_CLOEXEC, 0, ends) || (same = dup(ends[0])) < 0)
+        give_up("socketpair");
+    EXPECT(COVRETIN_OK, covretin_device_open_fd(&device, &table, &its, ends[0]));
+    send_bare(ends[1], 1, 0, 0, 0);                                  /* GET_FEATURES */
+    send_bare(ends[1], 2, 0, 8, COVRETIN_FEATURE_PROTOCOL_FEATURES); /* SET_FEATURES */
+    send_bare(ends[1], 15, 0, 0, 0);                                 /* GET_PROTOCOL_FEATURES */
+    send_bare(ends[1], 16, 0, 8, COVRETIN_PROTOCOL_REPLY_ACK);       /* SET_PROTOCOL_FEATURES */
+    for (int i = 0; i < 16; i++)
+        EXPECT(COVRETIN_NOT_YET, covretin_device_serve(&device));
+    while (send(same, filling, sizeof filling, MSG_DONTWAIT) > 0)
+        ;
+    before = unread(ends[1]);
+    send_bare(ends[1], 39, 8, 8, 0); /* SET_STATUS, with an acknowledgement */
+    for (int i = 0; i < 3; i++)
+        EXPECT(COVRETIN_NOT_YET, covretin_device_serve(&device));
+    EXPECT(before, unread(ends[1]));
+    EXPECT(1, counted.refusals);
+    close(same);
+    close(ends[1]);
+    while (covretin_device_serve(&device) == COVRETIN_NOT_YET)
+        ;
+    EXPECT(1, counted.refusals);
+    covretin_device_close(&device);
 }
 
 /* It serves one frontend after another, hangs up on one that comes meanwhile, and ends at a signal. */
@@ -2113,7 +2470,11 @@ int main(void)
     RUN(serves_indirect_and_event_index);
     RUN(serves_a_packed_queue);
     RUN(completes_later);
+    RUN(serves_bursts);
+    RUN(a_burst_has_an_end);
+    RUN(serves_bursts_of_a_packed_queue);
     RUN(takes_of_a_queue);
+    RUN(takes_bursts_of_a_queue);
     RUN(takes_by_itself);
     RUN(ends_where_memory_is_gone);
     RUN(ends_where_a_request_is_gone);
@@ -2141,11 +2502,13 @@ int main(void)
     RUN(logs_what_it_writes);
     RUN(logs_both_ends_of_a_large_request);
     RUN(refuses_other_files);
+    RUN(takes_no_larger_queue);
     RUN(has_a_configuration);
     RUN(tells_of_a_changed_configuration);
     RUN(keeps_a_channel_that_nobody_wants);
     RUN(polls_a_ring_without_a_kick);
     RUN(polls_a_quick_driver);
+    RUN(leaves_the_only_processor);
     RUN(waits_for_a_late_driver);
     RUN(closes_amid_a_request);
     RUN(bears_anything_in_a_split_queue);
@@ -2153,6 +2516,7 @@ int main(void)
     RUN(refuses_tables);
     RUN(ends_by_what_no_reply_refuses);
     RUN(gives_other_requests);
+    RUN(counts_a_refusal_before_it_is_told);
     RUN(runs_until_a_signal);
     RUN(runs_with_a_listener_that_is_there);
     RUN(runs_with_one_frontend);

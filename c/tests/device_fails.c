@@ -1,5 +1,5 @@
-/* A device over covretin_device.h, as calls of the system and allocations fail. Linked with --wrap=epoll_ctl, --wrap=malloc, --wrap=calloc
- * and --wrap=realloc. */
+/* A device over covretin_device.h, as calls of the system and allocations fail. Linked with --wrap=epoll_ctl, --wrap=poll, --wrap=malloc,
+ * --wrap=calloc and --wrap=realloc. */
 #ifndef _GNU_SOURCE
 #define _GNU_SOURCE
 #endif
@@ -10,16 +10,19 @@
 
 #include <errno.h>
 #include <fcntl.h>
+#include <poll.h>
 #include <stdlib.h>
 #include <sys/epoll.h>
 #include <sys/socket.h>
 #include <unistd.h>
 
 /* How many calls are still to succeed before one fails; negative: all do. */
-static int until_refusal = -1, until_failure = -1;
+static int until_refusal = -1, until_failure = -1, until_no_wait = -1;
 
 int __real_epoll_ctl(int polled, int operation, int fd, struct epoll_event *ready);
 int __wrap_epoll_ctl(int polled, int operation, int fd, struct epoll_event *ready);
+int __real_poll(struct pollfd *polled, nfds_t count, int milliseconds);
+int __wrap_poll(struct pollfd *polled, nfds_t count, int milliseconds);
 void *__real_malloc(size_t size);
 void *__real_calloc(size_t count, size_t size);
 void *__real_realloc(void *at, size_t size);
@@ -33,6 +36,15 @@ int __wrap_epoll_ctl(int polled, int operation, int fd, struct epoll_event *read
     if (operation != EPOLL_CTL_ADD || until_refusal < 0 || until_refusal-- != 0)
         return __real_epoll_ctl(polled, operation, fd, ready);
     errno = ENOSPC;
+    return -1;
+}
+
+/* (as where a filter of system calls has none of it) */
+int __wrap_poll(struct pollfd *polled, nfds_t count, int milliseconds)
+{
+    if (until_no_wait < 0 || until_no_wait-- != 0)
+        return __real_poll(polled, count, milliseconds);
+    errno = EPERM;
     return -1;
 }
 
@@ -188,9 +200,27 @@ static void no_frontend_waits_for_memory(void)
     EXPECT(true, failed > 0);
 }
 
+/* Whoever may not wait ends, and does not ask without end: before a frontend came, and while one is served. */
+static void ends_where_it_may_not_wait(void)
+{
+    int ends[2];
+    make_pair(ends);
+    until_no_wait = 0;
+    EXPECT(COVRETIN_SOCKET_ERROR, covretin_device_run(&calls, NULL, "fails.socket"));
+    EXPECT(EPERM, errno);
+    EXPECT(-1, access("fails.socket", F_OK));
+    until_no_wait = 0;
+    EXPECT(COVRETIN_SOCKET_ERROR, covretin_device_run_fd(&calls, NULL, ends[0]));
+    EXPECT(EPERM, errno);
+    until_no_wait = -1;
+    EXPECT(0, read(ends[1], &(char){0}, 1)); /* it was hung up on */
+    close(ends[1]);
+}
+
 int main(void)
 {
     RUN(a_socket_stays_the_callers);
     RUN(no_frontend_waits_for_memory);
+    RUN(ends_where_it_may_not_wait);
     return status();
 }

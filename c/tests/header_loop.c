@@ -1,4 +1,4 @@
-/* The loop at the head of covretin_backend.h, word for word, which ./test-c takes out of the header: it serves, and it reads nothing more
+/* The loop at the head of covretin_backend.h, word for word, which ./test c takes out of the header: it serves, and it reads nothing more
  * once the session has ended, since its frontend waits then. */
 #include "covretin_backend.h"
 #include "testing.h"

@@ -1,5 +1,5 @@
 """The devices that people run, by QEMU's conventions for backend programs: programs.py FOLDER [WORD..], in an empty folder. FOLDER has the
-compiled programs of c/tools/, and covretin-blk_stuck, a disk whose writes wait. The tests are all, or those whose names have one of these words.
+compiled programs of c/tools/, covretin-blk_stuck, a disk whose writes wait, and covretin-blk_coarse, one whose file has large blocks. The tests are all, or those whose names have one of these words.
 
 Each test has processes of its own. One that is told to end may sleep for a tenth of a second, and is not judged by the clock: a machine that
 has no time for it does not count. Prints a line for each; status 0 where all passed, else 1.
@@ -21,8 +21,8 @@ import time
 
 from backend_schema import wrong_capabilities
 from disk_attacks import ACCEPTED, DATA, GET_FEATURES, GET_PROTOCOL_FEATURES, GET_VRING_BASE, HEADER, NEED_REPLY, NEXT, REQUEST, SET_MEM_TABLE, VERSION
-from disk_attacks import POSTCOPY_ADVISE, SECTOR, SECTORS, SET_VRING_ADDR, SET_VRING_BASE, SET_VRING_CALL, SET_VRING_ENABLE, SET_VRING_KICK
-from disk_attacks import SET_PROTOCOL_FEATURES, SET_VRING_NUM, SIZE, STATUS, USER, WRITE, WRITTEN, Disk, Frontend, Guest, check, made_event, made_memory
+from disk_attacks import POSTCOPY_ADVISE, READ, SECTOR, SECTORS, SET_VRING_ADDR, SET_VRING_BASE, SET_VRING_CALL, SET_VRING_ENABLE, SET_VRING_KICK
+from disk_attacks import SET_FEATURES, SET_PROTOCOL_FEATURES, SET_VRING_NUM, SIZE, STATUS, USER, WRITE, WRITTEN, Disk, Frontend, Guest, check, made_event, made_memory
 from disk_attacks import working
 
 FOLDER = os.path.abspath(sys.argv[1])
@@ -121,12 +121,14 @@ def capabilities_are_of_the_schema():
 
 WRONG = [
     "", "--socket-path", "--socket-path=", "--socket-path=here --fd=7", "--fd=2", "--fd=x", "--fd=-1", "--fd=7x", "--nonsense", "nonsense",
-    "--socket-path=here --help=1", "--version=1", "-x", "--calls-by-pipe=1",
+    "--socket-path=here --help=1", "--version=1", "-x", "--calls-by-pipe=1", "--socket-path=here --metrics=",
 ]
 WRONG_DISK = [
     "--socket-path=here", "--socket-path=here --blk-file", "--socket-path=here --blk-file=", "--socket-path=here --blk-file=f --read-only=1",
     "--socket-path=here --blk-file=f --num-queues=0", "--socket-path=here --blk-file=f --num-queues=9",
+    "--socket-path=here --blk-file=f --queue-size=3", "--socket-path=here --blk-file=f --queue-size=1025",
     "--socket-path=here --blk-file=f --serial=123456789012345678901", "--socket-path=here --blk-file=f --busy-poll-us=1000001",
+    "--socket-path=here --blk-file=f --io=aio", "--socket-path=here --blk-file=f --cache=unsafe",
 ]
 
 
@@ -173,7 +175,7 @@ def what_fails_is_status_4():
 def help_names_each_option():
     for device in DEVICES:
         status, said, _ = ran(device, "--help")
-        check(status == 0 and all(f"--{word}" in said for word in ("socket-path", "fd", "print-capabilities")), f"{device} says them")
+        check(status == 0 and all(f"--{word}" in said for word in ("socket-path", "fd", "print-capabilities", "metrics")), f"{device} says them")
         check(ran(device, "--version")[1].startswith(f"{device} "), f"{device} has a version")
 
 
@@ -277,9 +279,11 @@ def refusals_say_why():
     with open("/dev/zero", "rb") as it:
         check(sends_table(frontend, it.fileno(), 4096) is False, "a file that is none of memory is refused")
     says(disk, "SET_MEM_TABLE refused: region 0 is no memory file (memfd, tmpfs, hugetlbfs)")
-    frontend.ask(SET_VRING_NUM, b"1234", (), VERSION | NEED_REPLY)
-    says(disk, "SET_VRING_NUM refused: it has to be 8 bytes and no descriptor")
     frontend.close()
+    for flags, line in ((VERSION + 1, "its version is 2, and not 1"), (VERSION | 16, "its flags are 0x11, of which bits are reserved")):
+        ended_by(Frontend(disk), HEADER.pack(SET_FEATURES, flags, 0))
+        says(disk, f"SET_FEATURES refused: {line}")
+    says(disk, "this device ended the session, at SET_FEATURES: invalid message")
     os.close(small)
     guest = working(disk)
     guest.offer(3)
@@ -289,13 +293,53 @@ def refusals_say_why():
     disk.ends_by(signal.SIGTERM)
 
 
+REASONS = os.path.join(os.path.dirname(os.path.abspath(__file__)), "../../rust/tests/expected/reasons.tsv")
+
+
+def each_refusal_says_what_was_wanted_and_what_came():
+    with open(REASONS, encoding="utf-8") as it:
+        rows = [line.rstrip("\n").split("\t") for line in it][1:]
+    for code, body, count, said in rows:
+        disk = Program()  # (few lines come in a second)
+        frontend = Frontend(disk)
+        files = [made_memory(4096) for _ in range(int(count))]
+        frontend.send(int(code), b"" if body == "-" else bytes.fromhex(body), files, VERSION | NEED_REPLY)
+        says(disk, said)
+        check("/" not in disk.tells(), "no path is named")
+        for it in (*files, frontend.socket.detach()):
+            os.close(it)
+        disk.ends_by(signal.SIGTERM)
+    check(len(rows) > 15, "there are rows")
+
+
+def ended_by(frontend, bytes_sent):
+    """The device hangs up on who sends these."""
+    frontend.socket.sendall(bytes_sent)
+    frontend.disk.wait_until(frontend.is_hung_up_on, "it hangs up")
+    frontend.close()
+
+
+def a_message_that_is_cut_short_is_no_refusal():
+    disk = Program("--log=info")
+    for sent, line in (
+        (HEADER.pack(SET_FEATURES, VERSION, 8) + b"1234", "the session ended: the frontend sent no whole message, at SET_FEATURES"),
+        (HEADER.pack(SET_FEATURES, VERSION, 8)[:7], "the session ended: the frontend went amid a header, after SET_FEATURES"),
+    ):
+        frontend = Frontend(disk)
+        frontend.socket.sendall(sent)
+        frontend.close()
+        says(disk, line)
+    disk.ends_by(signal.SIGTERM)
+    check("SET_FEATURES refused" not in disk.tells(), "nothing was refused")
+
+
 def a_broken_queue_says_its_rule():
     disk = Program()
     guest = Guest(disk)
     check(guest.start(), "the ring starts")
     guest.describe(0, REQUEST, 16, NEXT, 0)
     guest.offers_head(0)
-    says(disk, "queue 0 is broken by its driver: a chain is a loop, or has more descriptors than the queue")
+    says(disk, "queue 0 is broken by its driver: a chain is a loop, or has more descriptors than it may")
     guest.close()
     disk.ends_by(signal.SIGTERM)
 
@@ -307,7 +351,7 @@ def a_flood_of_refusals_is_cut_short():
         frontend.socket.sendall(20 * HEADER.pack(REM_MEM_REG, VERSION, 0))
     frontend.close()
     disk.has()
-    lines = disk.tells().count("REM_MEM_REG (request 38) refused: ")
+    lines = disk.tells().count("REM_MEM_REG refused: ")
     check(0 < lines < 2000, f"{lines} of 2000 lines come")
     disk.ends_by(signal.SIGTERM)
 
@@ -333,6 +377,126 @@ def counts_are_printed_at_a_signal():
     disk.wait_until(lambda: re.search(wanted, disk.tells()), "it prints what it counted")
     guest.close()
     disk.ends_by(signal.SIGTERM)
+
+
+# -- Counts for Prometheus --
+
+REQUEST_OF_PROMETHEUS = b"GET /metrics HTTP/1.1\r\nHost: device\r\nAccept: */*\r\n\r\n"
+EACH_COUNT = {"sessions_total", "requests_total", "bytes_total", "kicks_total", "calls_total", "refusals_total", "longest_turn_seconds"}
+
+
+def parsed(answer):
+    """The counts of an answer, whose head says how long it is and of what form, and each of which is described before."""
+    head, _, text = answer.partition("\r\n\r\n")
+    check(head.startswith("HTTP/1.0 200 OK\r\n") and "Content-Type: text/plain; version=0.0.4" in head, f"a head of HTTP: {head}")
+    check(f"Content-Length: {len(text)}" in head.split("\r\n"), "it says how long the text is")
+    kinds = dict(re.findall(r"^# TYPE covretin_(\w+) (counter|gauge)$", text, re.M))
+    counts = dict(re.findall(r"^covretin_(\w+) ([0-9.]+)$", text, re.M))
+    check(set(counts) == EACH_COUNT and set(kinds) == EACH_COUNT | {"info"}, f"each has a type: {text}")
+    check(all((kinds[name] == "counter") == name.endswith("_total") and f"# HELP covretin_{name} " in text for name in counts), "of its form")
+    return {name: float(value) for name, value in counts.items()}
+
+
+def answer_to(disk, said):
+    """What a reader gets who says this, and then no more."""
+    with socket.socket(socket.AF_UNIX) as it:
+        it.connect("metrics.socket")
+        it.sendall(said)
+        if not said:
+            it.shutdown(socket.SHUT_WR)
+        data = b""
+        while True:
+            disk.wait_until(lambda: select.select([it], [], [], 0)[0], "it answers")
+            part = it.recv(65536)
+            if not part:
+                return parsed(data.decode())
+            data += part
+
+
+def printed(disk):
+    """What it prints at SIGUSR1, as it tells it at its socket."""
+    before = disk.tells().count("longest turn")
+    disk.process.send_signal(signal.SIGUSR1)
+    disk.wait_until(lambda: disk.tells().count("longest turn") > before and disk.tells().endswith("\n"), "it prints what it counted")
+    line = disk.tells().rstrip("\n").rpartition("\n")[2]
+    return {f"{name}_total": float(count) for name, count in re.findall(r"(\w+) (\d+),", line)}
+
+
+def counts_are_told_at_a_socket():
+    disk = Program("--log=none", "--metrics=metrics.socket")
+    had = disk.has()  # (a session, beside the one that looked whether it listens)
+    before = answer_to(disk, REQUEST_OF_PROMETHEUS)
+    check(before["requests_total"] == before["bytes_total"] == before["refusals_total"] == 0, f"no guest was there: {before}")
+    guest = working(disk)
+    guest.read(5)
+    guest.frontend.acknowledged(SET_VRING_NUM, struct.pack("<II", 99, 1))
+    guest.frontend.ask(GET_FEATURES)
+    during = answer_to(disk, b"\n")
+    check(during["sessions_total"] == before["sessions_total"] + 1, f"one came: {before}, {during}")
+    check((during["requests_total"], during["bytes_total"], during["refusals_total"]) == (2, 2 * (16 + SECTOR + 1), 1), f"it was served: {during}")
+    check(during["calls_total"] == 2 and 0 < during["longest_turn_seconds"] < 1000, f"and called: {during}")
+    check(printed(disk) == {name: count for name, count in during.items() if name.endswith("_total")}, "SIGUSR1 prints the same")
+    guest.close()
+    guest = working(disk)
+    guest.close()
+    check(disk.has() == had, "it has as many descriptors as before")
+    after = answer_to(disk, b"")
+    check(after["sessions_total"] == during["sessions_total"] + 2 and after["requests_total"] == 3, f"counts go on with the next: {after}")
+    check(all(after[name] >= during[name] for name in after), "no counter goes back")
+    disk.ends_by(signal.SIGTERM)
+    check(not os.path.exists("metrics.socket"), "the socket is gone")
+
+
+def counts_are_read_by_curl_and_socat():
+    disk = Program("--metrics=metrics.socket")
+    commands = [["curl", "--silent", "--include", "--unix-socket", "metrics.socket", "http://device/metrics"], ["socat", "-", "UNIX-CONNECT:metrics.socket"]]
+    for words in commands:
+        if shutil.which(words[0]) is None:
+            print(f"{words[0]} reads no metrics: left out: it is not there")
+            continue
+        for typed in ("\n", ""):
+            done = subprocess.run(words, input=typed.encode(), capture_output=True, timeout=600, check=True)
+            check(parsed(done.stdout.decode())["requests_total"] == 0, f"{words[0]} reads it")
+    disk.ends_by(signal.SIGTERM)
+
+
+def readers_of_counts_delay_nobody():
+    disk = Program("--log=none", "--metrics=metrics.socket")
+    had = disk.fds()
+    readers = []
+    for number in range(60):  # who never reads, and of whom every other one asks for nothing either, or goes on with that
+        it = socket.socket(socket.AF_UNIX)
+        it.connect("metrics.socket")
+        it.setblocking(False)
+        try:
+            it.sendall([b"", REQUEST_OF_PROMETHEUS, bytes(1 << 20)][number % 3])
+        except (BlockingIOError, BrokenPipeError, ConnectionResetError):
+            pass
+        readers.append(it)
+    guest = working(disk)
+    guest.read(5)
+    check(answer_to(disk, REQUEST_OF_PROMETHEUS)["requests_total"] == 2, "another one is answered")
+    guest.close()
+    disk.has()
+    # (what the guest gave is closed as its session ends)
+    disk.wait_until(lambda: disk.fds() <= had + 16 + 1, "no more than some of them are kept")
+    while readers:
+        readers.pop().close()
+    disk.wait_until(lambda: disk.fds() <= had, "none is kept who went")
+    for _ in range(20):
+        readers.append(socket.socket(socket.AF_UNIX))
+        readers[-1].connect("metrics.socket")
+    disk.ends_by(signal.SIGTERM)
+    for it in readers:
+        it.close()
+
+
+def a_socket_for_counts_that_cannot_be_had_is_status_4():
+    with open("file", "wb") as it:
+        it.write(bytes(SECTOR))
+    for device in DEVICES:
+        status, _, wrong = ran(device, "--socket-path=here", "--metrics=none/here", *NEEDED.get(device, []))
+        check(status == 4 and "none/here" in wrong and not os.path.exists("here"), f"{device}: status {status}, {wrong}")
 
 
 def pipes_are_signalled_where_that_is_asked_for():
@@ -364,6 +528,190 @@ def read_only_writes_nothing():
     check(guest.memory[STATUS] == 1, "it is refused")
     guest.close()
     disk.ends_by(signal.SIGTERM)
+
+
+FLUSH = 1 << 9
+
+
+def flags_of_the_file(disk):
+    """Those that its file is open with."""
+    here = f"/proc/{disk.process.pid}"
+    number = next(it for it in os.listdir(f"{here}/fd") if os.readlink(f"{here}/fd/{it}").endswith("program.image"))
+    with open(f"{here}/fdinfo/{number}", encoding="ascii") as it:
+        return int(re.search(r"^flags:\s*(\d+)$", it.read(), re.M)[1], 8)
+
+
+def writes_go_through_where_that_is_asked_for():
+    for words, goes_through in (((), False), (("--cache=writeback",), False), (("--cache=writethrough",), True)):
+        disk = Program(*words)
+        guest = working(disk)
+        offered = struct.unpack("<Q", guest.frontend.ask(GET_FEATURES))[0]
+        check(bool(offered & FLUSH) != goes_through, f"{words}: a flush is offered where something is cached")
+        check((flags_of_the_file(disk) & os.O_DSYNC == os.O_DSYNC) == goes_through, f"{words}: the file is opened so")
+        guest.memory[DATA : DATA + SECTOR] = b"t" * SECTOR
+        guest.offer(5, WRITTEN)
+        disk.wait_until(guest.is_used, "a sector is written")
+        with open(disk.image, "rb") as it:
+            it.seek(5 * SECTOR)
+            check(guest.memory[STATUS] == 0 and it.read(SECTOR) == b"t" * SECTOR, "it is in the file")
+        guest.close()
+        disk.ends_by(signal.SIGTERM)
+
+
+# A read or a write: the sector, how many, where the guest's memory has them, and of how many bytes its segments are. The last ones lie in
+# memory, or are cut, as no file has its blocks.
+TRANSFERS = [
+    (0, 8, DATA, (4096,)), (16, 16, DATA, (4096, 4096)), (5, 1, DATA, (SECTOR,)), (13, 6, DATA + 1024, (3072,)), (2040, 8, DATA, (4096,)),
+    (7, 1, DATA + 8, (SECTOR,)), (3, 2, DATA, (100, 924)), (24, 8, DATA + 1, (1, 4094, 1)), (1001, 300, DATA + 3, (50000, 3600, 100000)), (2047, 1, DATA + 2, (SECTOR,)),
+]
+ZEROED = 13  # a kind of request
+
+
+def does(guest, kind, transfers):
+    """A guest makes these requests at once, and waits until all are used."""
+    for number, (sector, _, at, sizes) in enumerate(transfers):
+        head, place = 5 * number, REQUEST + 32 * number
+        parts = [(place, 16, NEXT)]
+        for size in sizes:
+            parts.append((at, size, NEXT if kind in (WRITTEN, ZEROED) else NEXT | 2))
+            at += size
+        parts.append((place + 16, 1, 2))
+        struct.pack_into("<IIQB", guest.memory, place, kind, 0, sector, 0xFF)
+        for index, part in enumerate(parts):
+            guest.describe(head + index, *part, head + index + 1)
+        guest.offers_head(head)
+    guest.frontend.disk.wait_until(guest.is_used, "they are used")
+    for number in range(len(transfers)):
+        check(guest.memory[REQUEST + 32 * number + 16] == 0, f"{kind}: {transfers[number]} is done")
+
+
+class Image:
+    """What a disk's file has to have."""
+
+    def __init__(self, disk):
+        self.disk = disk
+        with open(disk.image, "rb") as it:
+            self.bytes = bytearray(it.read())
+
+    def moves(self, guest, transfer):
+        """Other bytes are written, and are there as they are read, with the rest as it was."""
+        sector, count, at, _ = transfer
+        size, place = count * SECTOR, slice(sector * SECTOR, (sector + count) * SECTOR)
+        self.bytes[place] = guest.memory[at : at + size] = os.urandom(size)
+        does(guest, WRITTEN, [transfer])
+        guest.memory[at : at + size] = bytes(size)
+        does(guest, READ, [transfer])
+        check(guest.memory[at : at + size] == self.bytes[place], f"{transfer}: what was written is read")
+        self.is_there(transfer)
+
+    def parts_of_a_block(self, guest):
+        """Three requests at a time write to one block."""
+        for turn in range(20):
+            transfers = [(40 + number, 1, DATA + 1024 * number, (SECTOR,)) for number in range(3)]
+            for sector, _, at, _ in transfers:
+                self.bytes[sector * SECTOR : (sector + 1) * SECTOR] = guest.memory[at : at + SECTOR] = os.urandom(SECTOR)
+            does(guest, WRITTEN, transfers)
+            self.is_there(f"turn {turn}")
+
+    def zeros(self, guest, sector, count):
+        struct.pack_into("<QII", guest.memory, DATA, sector, count, 0)
+        does(guest, ZEROED, [(0, 0, DATA, (16,))])
+        self.bytes[sector * SECTOR : (sector + count) * SECTOR] = bytes(count * SECTOR)
+        self.is_there("zeros")
+
+    def is_there(self, what):
+        with open(self.disk.image, "rb") as it:
+            check(it.read() == self.bytes, f"{what}: the file has what was written, and the rest as it was")
+
+
+def has_direct():
+    """Whether a file here can be opened without a cache."""
+    with open("program.image", "wb") as it:
+        it.write(os.urandom(SECTOR * SECTORS))
+    try:
+        os.close(os.open("program.image", os.O_RDWR | os.O_DIRECT))
+    except OSError:
+        print("--cache=none is left out: there is no O_DIRECT here")
+        return False
+    return True
+
+
+def passes_the_cache_by(name, *words):
+    disk = Program("--cache=none", *words, name=name)
+    check(flags_of_the_file(disk) & os.O_DIRECT, f"{words}: the file is opened so")
+    had, guest = disk.has(), working(disk)
+    check(struct.unpack("<Q", guest.frontend.ask(GET_FEATURES))[0] & FLUSH, "a flush is offered: the device may cache")
+    image = Image(disk)
+    for transfer in TRANSFERS:
+        image.moves(guest, transfer)
+    image.parts_of_a_block(guest)
+    image.zeros(guest, 51, 20)
+    guest.close()
+    check(disk.has() == had, "it has as many descriptors as before")
+    disk.ends_by(signal.SIGTERM)
+
+
+def the_cache_is_passed_by_where_that_is_asked_for():
+    if not has_direct():
+        return
+    for words in (("--io=threads",), ()):
+        passes_the_cache_by("covretin-blk", *words)
+        passes_the_cache_by("covretin-blk_coarse", *words)
+
+
+def files_that_cannot_be_without_a_cache_are_status_4():
+    words = ("--socket-path=here", "--cache=none")
+    status, _, wrong = ran("covretin-blk", *words, "--read-only", "--blk-file=/proc/version")
+    check(status == 4 and "/proc/version: its file system has no O_DIRECT" in wrong, f"status {status}, {wrong}")
+    if has_direct():
+        os.truncate("program.image", 4096 + SECTOR)
+        status, _, wrong = ran("covretin-blk_coarse", *words, "--blk-file=program.image")
+        check(status == 4 and "program.image: its size is no multiple of 4096 bytes" in wrong, f"status {status}, {wrong}")
+
+
+def has_ring_of_the_kernel(disk):
+    here = f"/proc/{disk.process.pid}/fd"
+    return any("io_uring" in os.readlink(f"{here}/{it}") for it in os.listdir(here))
+
+
+def a_file_is_read_by_what_is_asked_for():
+    usual = Program()
+    may_have = has_ring_of_the_kernel(usual)
+    usual.ends_by(signal.SIGTERM)
+    disk = Program("--io=threads")
+    check(not has_ring_of_the_kernel(disk), "it has threads alone")
+    working(disk).close()
+    disk.ends_by(signal.SIGTERM)
+    if may_have:
+        disk = Program("--io=io_uring")
+        check(has_ring_of_the_kernel(disk), "it has io_uring")
+        working(disk).close()
+        disk.ends_by(signal.SIGTERM)
+    else:
+        status, _, wrong = ran("covretin-blk", "--socket-path=here", "--blk-file=program.image", "--io=io_uring")
+        check(status == 4 and "io_uring" in wrong, f"it does not start without: {status}, {wrong}")
+
+
+def segments_of(guest):
+    """As many as the disk tells the guest that a request may have."""
+    it = guest.frontend
+    it.send(SET_PROTOCOL_FEATURES, struct.pack("<Q", ACCEPTED | CONFIG))
+    return struct.unpack("<I", it.ask(GET_CONFIG, struct.pack("<III4x", 12, 4, 0))[12:])[0]
+
+
+def larger_queues_are_refused_where_that_is_asked_for():
+    for words, most, segments in (((), 1024, 126), (("--queue-size=128",), 128, 126), (("--queue-size=16",), 16, 14)):
+        disk = Program(*words)
+        guest = working(disk)
+        check(segments_of(guest) == segments, f"{words}: a request has no more segments than fit into a queue")
+        check(guest.frontend.ask(GET_VRING_BASE, struct.pack("<II", 0, 0)) is not None, "the queue stops")
+        for size, is_taken in ((most + 1, False), (2 * most, False), (most, True)):
+            check(guest.frontend.acknowledged(SET_VRING_NUM, struct.pack("<II", 0, size)) == is_taken, f"{words}: {size} descriptors")
+        says(disk, f"SET_VRING_NUM refused: queue 0 cannot have {2 * most} descriptors: it takes 1 to {most}")
+        guest.start()
+        guest.read(4)
+        guest.close()
+        disk.ends_by(signal.SIGTERM)
 
 
 def serial_is_what_was_given():
@@ -823,9 +1171,10 @@ def works_under_the_filter_of_its_unit():
     def before():
         os.environ["ASAN_OPTIONS"] = "detect_leaks=0"  # which traces the process
         check(libc.prctl(38, 1, 0, 0, 0) == 0 and libc.prctl(22, 2, rules, 0, 0) == 0, "the filter is set")
-    disk = Program("--num-queues=2", before=before)
+    disk = Program("--num-queues=2", "--metrics=metrics.socket", before=before)
     had = disk.has()
     for _ in range(2):
+        check(answer_to(disk, b"\n")["refusals_total"] == 0, "it tells what it counted")
         guest = working(disk)
         guest.memory[DATA : DATA + SECTOR] = b"w" * SECTOR
         guest.offer(5, WRITTEN)
@@ -842,9 +1191,12 @@ def works_under_the_filter_of_its_unit():
 TESTS = [capabilities_are_of_the_schema, wrong_arguments_are_status_2, what_fails_is_status_4, help_names_each_option]
 TESTS += [serves_at_a_path, leaves_descriptors_and_process_alone, serves_a_socket_that_listens, serves_a_socket_that_is_connected]
 TESTS += [a_message_that_is_none_is_status_1, ends_while_connected, ends_while_a_request_waits]
-TESTS += [refusals_say_why, a_broken_queue_says_its_rule, a_flood_of_refusals_is_cut_short, nobody_has_to_listen, counts_are_printed_at_a_signal]
+TESTS += [refusals_say_why, each_refusal_says_what_was_wanted_and_what_came, a_message_that_is_cut_short_is_no_refusal, a_broken_queue_says_its_rule, a_flood_of_refusals_is_cut_short, nobody_has_to_listen, counts_are_printed_at_a_signal]
+TESTS += [counts_are_told_at_a_socket, counts_are_read_by_curl_and_socat, readers_of_counts_delay_nobody, a_socket_for_counts_that_cannot_be_had_is_status_4]
 TESTS += [pipes_are_signalled_where_that_is_asked_for]
-TESTS += [read_only_writes_nothing, serial_is_what_was_given]
+TESTS += [read_only_writes_nothing, writes_go_through_where_that_is_asked_for, a_file_is_read_by_what_is_asked_for, serial_is_what_was_given]
+TESTS += [the_cache_is_passed_by_where_that_is_asked_for, files_that_cannot_be_without_a_cache_are_status_4]
+TESTS += [larger_queues_are_refused_where_that_is_asked_for]
 TESTS += [two_cards_reach_each_other, a_card_whose_other_end_is_gone_drops, a_card_tells_where_its_guest_is, a_tap_is_the_other_end]
 TESTS += [a_console_is_a_socket, a_console_is_a_terminal, visitors_of_a_console_come_and_go, what_is_typed_at_a_console_waits_for_room]
 TESTS += [who_pauses_at_a_console_stops_no_guest]

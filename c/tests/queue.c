@@ -424,6 +424,178 @@ static void walks_of_no_chain(void)
     covretin_queue_close(&queue);
 }
 
+/* A chain of two descriptors, and what a walk of it tells that was given them both. */
+static covretin_descriptor pair[2] = {{GUEST + 0x1000, 16, 1, 1}, {GUEST + 0x2000, 32, 2, 0}};
+
+static void expect_pair(const covretin_walked *walked, const covretin_segment *segments)
+{
+    HOLDS(walked->taken == 2 && walked->count == 2 && !walked->table.goes_on);
+    HOLDS(segments[0].guest_addr == GUEST + 0x1000 && segments[0].range.len == 16 && !segments[0].writable);
+    HOLDS(segments[1].guest_addr == GUEST + 0x2000 && segments[1].range.len == 32 && segments[1].writable);
+}
+
+/* Many heads are read by one call: those up to the end of the ring, and then those from its begin on. */
+static void heads_at_once(void)
+{
+    covretin_queue queue = {0};
+    covretin_split_ring ring = split_ring();
+    covretin_packed_ring packed = {USER, USER + 0x100, USER + 0x104, 3, 0x8000, 0x8000, true, false};
+    const uint64_t entries = (uint64_t)(uintptr_t)(memory + 0x104);
+    covretin_range place = {9, 9};
+    uint16_t count;
+
+    HOLDS(covretin_queue_heads_place(&queue, 4, &place) == COVRETIN_QUEUE_NO_QUEUE);
+    queue = opened();
+    HOLDS(covretin_queue_heads_place(&queue, 4, &place) == COVRETIN_QUEUE_NOT_STARTED);
+    ring.next_avail = 0xfffe; /* (the entry 2 of the ring, and the index comes round) */
+    HOLDS(covretin_queue_start_split(&queue, &ring) == 0);
+    HOLDS(covretin_queue_heads_place(&queue, 4, &place) == COVRETIN_QUEUE_NOTHING_AVAILABLE && place.addr == 9);
+    HOLDS(covretin_queue_available(&queue, 1, &count) == 0 && count == 3);
+    HOLDS(covretin_queue_heads_place(&queue, SIZE_MAX, &place) == 0 && place.addr == entries + 4 && place.len == 4);
+    HOLDS(covretin_queue_heads_place(&queue, 1, &place) == 0 && place.addr == entries + 4 && place.len == 2);
+    HOLDS(covretin_queue_heads_place(&queue, 0, &place) == 0 && place.addr == entries + 4 && place.len == 0);
+    HOLDS(covretin_queue_pop(&queue, 0) == 0 && covretin_queue_pop(&queue, 1) == 0);
+    HOLDS(covretin_queue_heads_place(&queue, 4, &place) == 0 && place.addr == entries && place.len == 2);
+    HOLDS(covretin_queue_pop(&queue, 2) == 0 && covretin_queue_heads_place(&queue, 4, &place) == COVRETIN_QUEUE_NOTHING_AVAILABLE);
+    HOLDS(covretin_queue_start_packed(&queue, &packed) == 0);
+    HOLDS(covretin_queue_heads_place(&queue, 4, &place) == COVRETIN_QUEUE_OTHER_LAYOUT);
+    covretin_queue_close(&queue);
+}
+
+/* A chain is taken and followed by one call; so are its copies in part, or none. Where it is refused, nothing is told. */
+static void taken_by_one_call(void)
+{
+    covretin_queue queue = {0};
+    covretin_split_ring ring = split_ring();
+    covretin_segment segments[2];
+    covretin_walked walked = {9, 9, {{9, 9}, 9, true}};
+    covretin_used used;
+    uint16_t count;
+    bool on;
+
+    HOLDS(covretin_queue_take(&queue, 0, pair, 2, segments, 2, &walked) == COVRETIN_QUEUE_NO_QUEUE);
+    queue = opened();
+    HOLDS(covretin_queue_take(&queue, 0, pair, 2, segments, 2, &walked) == COVRETIN_QUEUE_NOT_STARTED);
+    HOLDS(covretin_queue_start_split(&queue, &ring) == 0);
+    HOLDS(covretin_queue_take(&queue, 0, pair, 2, segments, 2, &walked) == COVRETIN_QUEUE_NOTHING_AVAILABLE && walked.taken == 9);
+    HOLDS(covretin_queue_available(&queue, 3, &count) == 0 && count == 3);
+    HOLDS(covretin_queue_take(&queue, 0, pair, 2, segments, 2, &walked) == 0);
+    expect_pair(&walked, segments);
+    HOLDS(covretin_queue_take(&queue, 3, pair, 2, segments, 1, &walked) == 0 && walked.taken == 1 && walked.count == 1);
+    HOLDS(walked.table.goes_on && walked.table.next == 1 && covretin_queue_walk(&queue, pair + 1, 1, segments, 1, &walked) == 0);
+    HOLDS(covretin_queue_take(&queue, 2, pair, 0, segments, 2, &walked) == 0 && walked.taken == 0 && walked.table.next == 2);
+    HOLDS(covretin_queue_add_used(&queue, 3, 0, &used) == 0 && covretin_queue_available(&queue, 4, &count) == 0);
+    pair[1].addr = 0;
+    HOLDS(covretin_queue_take(&queue, 1, pair, 2, segments, 2, &walked) == COVRETIN_QUEUE_NOT_IN_GUEST && walked.table.next == 2);
+    pair[1].addr = GUEST + 0x2000;
+    HOLDS(covretin_queue_needs_reset(&queue, &on) == 0 && on && covretin_queue_add_used(&queue, 1, 0, &used) == 0);
+    HOLDS(covretin_queue_take(&queue, 1, pair, 2, segments, 2, &walked) == COVRETIN_QUEUE_NEEDS_RESET);
+    for (uint16_t head = 0; head < 5; head += 4) { /* a head that is out, and one that is none */
+        HOLDS(covretin_queue_start_split(&queue, &ring) == 0 && covretin_queue_adopt(&queue, 0) == 0 && covretin_queue_available(&queue, 1, &count) == 0);
+        HOLDS(covretin_queue_take(&queue, head, pair, 2, segments, 2, &walked) == (head == 0 ? COVRETIN_QUEUE_HEAD_IN_USE : COVRETIN_QUEUE_NOT_IN_TABLE));
+    }
+    covretin_queue_close(&queue);
+}
+
+/* The same of a packed queue, by the flags of its next place. */
+static void taken_by_one_call_packed(void)
+{
+    covretin_queue queue = opened();
+    covretin_packed_ring ring = {USER, USER + 0x100, USER + 0x104, 3, 0x8000, 0x8000, true, false};
+    covretin_descriptor copies[2] = {{GUEST + 0x1000, 16, 0, 0x81}, {GUEST + 0x2000, 32, 2, 0x82}};
+    covretin_segment segments[2];
+    covretin_walked walked = {9, 9, {{9, 9}, 9, true}};
+    covretin_used used;
+    uint32_t base;
+
+    HOLDS(covretin_queue_start_packed(&queue, &ring) == 0);
+    HOLDS(covretin_queue_take(&queue, 0x8081, copies, 2, segments, 2, &walked) == COVRETIN_QUEUE_NOTHING_AVAILABLE && walked.taken == 9);
+    HOLDS(covretin_queue_base(&queue, &base) == 0 && base == 0x80008000);
+    HOLDS(covretin_queue_take(&queue, 0x81, copies, 2, segments, 2, &walked) == 0);
+    expect_pair(&walked, segments);
+    HOLDS(covretin_queue_base(&queue, &base) == 0 && base == 0x80008002);
+    copies[0].fourth = 0x82;
+    HOLDS(covretin_queue_take(&queue, 0x82, copies, 1, segments, 2, &walked) == 0 && walked.count == 1 && covretin_queue_add_used(&queue, 0, 0, &used) == 0);
+    copies[1].third = 2; /* (the first chain's id) */
+    HOLDS(covretin_queue_take(&queue, 0x8002, copies + 1, 1, segments, 2, &walked) == COVRETIN_QUEUE_HEAD_IN_USE && walked.count == 1);
+    HOLDS(covretin_queue_take(&queue, 0x8002, copies + 1, 1, segments, 2, &walked) == COVRETIN_QUEUE_NEEDS_RESET);
+    covretin_queue_close(&queue);
+}
+
+static bool is_same_used(const covretin_used *one, const covretin_used *other)
+{
+    return one->elem.addr == other->elem.addr && one->elem.len == other->elem.len && one->elem_value == other->elem_value &&
+           one->then.addr == other->then.addr && one->then.len == other->then.len && one->then_value == other->then_value;
+}
+
+/* Chains are given back by one call as if one by one, of two queues that have the same; a refusal tells of those before it. */
+static void given_back_by_one_call(covretin_queue *queue, covretin_queue *other, const uint16_t ids[3], uint16_t none)
+{
+    const uint32_t lens[3] = {7, 0, 9};
+    const uint16_t wrong[3] = {ids[2], none, ids[2]};
+    covretin_used used[3], blank, expected;
+    size_t done = 9;
+
+    memset(used, 0xa5, sizeof used);
+    blank = used[2];
+    HOLDS(covretin_queue_add_used_many(queue, ids, 0, lens, 0, used, 0, &done) == 0 && done == 0);
+    HOLDS(covretin_queue_add_used_many(queue, ids, 3, lens, 2, used, 3, &done) == COVRETIN_QUEUE_NO_ROOM && done == 0);
+    done = 9;
+    HOLDS(covretin_queue_add_used_many(queue, ids, 3, lens, 3, used, 2, &done) == COVRETIN_QUEUE_NO_ROOM && done == 0);
+    HOLDS(is_same_used(&used[0], &blank));
+    HOLDS(covretin_queue_add_used_many(queue, ids, 2, lens, 3, used, 3, &done) == 0 && done == 2 && is_same_used(&used[2], &blank));
+    for (size_t i = 0; i < 2; i++)
+        HOLDS(covretin_queue_add_used(other, ids[i], lens[i], &expected) == 0 && is_same_used(&used[i], &expected));
+    memset(used, 0xa5, sizeof used);
+    HOLDS(covretin_queue_add_used_many(queue, wrong, 3, lens, 3, used, 3, &done) == COVRETIN_QUEUE_NOT_HANDED_OUT && done == 1);
+    HOLDS(covretin_queue_add_used(other, ids[2], lens[0], &expected) == 0 && is_same_used(&used[0], &expected) && is_same_used(&used[1], &blank));
+    HOLDS(covretin_queue_add_used_many(queue, ids, 1, lens, 1, used, 1, &done) == COVRETIN_QUEUE_NOT_HANDED_OUT && done == 0);
+}
+
+/* The device has the chains of three heads, or of three ids. */
+static void take_three(covretin_queue *queue, const uint16_t heads[3])
+{
+    covretin_split_ring ring = split_ring();
+    HOLDS(covretin_queue_start_split(queue, &ring) == 0);
+    for (size_t i = 0; i < 3; i++)
+        HOLDS(covretin_queue_adopt(queue, heads[i]) == 0);
+}
+
+static void take_three_packed(covretin_queue *queue)
+{
+    covretin_packed_ring ring = {USER, USER + 0x100, USER + 0x104, 3, 0x8000, 0x8000, true, false};
+    HOLDS(covretin_queue_start_packed(queue, &ring) == 0);
+    for (uint16_t id = 0; id < 3; id++) {
+        covretin_descriptor descriptor = {GUEST, 16, id, 0x80};
+        covretin_segment segment;
+        covretin_walked walked;
+        HOLDS(covretin_queue_take(queue, 0x80, &descriptor, 1, &segment, 1, &walked) == 0 && walked.count == 1);
+    }
+}
+
+static void given_back_at_once(void)
+{
+    const uint16_t heads[3] = {3, 0, 1}, ids[3] = {2, 1, 0};
+    const uint32_t len = 1;
+    covretin_queue queues[2] = {{0}, {0}};
+    covretin_used used;
+    size_t done = 9;
+
+    HOLDS(covretin_queue_add_used_many(&queues[0], heads, 0, &len, 0, &used, 0, &done) == COVRETIN_QUEUE_NO_QUEUE && done == 0);
+    for (size_t i = 0; i < 2; i++) {
+        queues[i] = opened();
+        HOLDS(covretin_queue_add_used_many(&queues[i], heads, 0, &len, 0, &used, 0, &done) == 0 && done == 0);
+        HOLDS(covretin_queue_add_used_many(&queues[i], heads, 1, &len, 1, &used, 1, &done) == COVRETIN_QUEUE_NOT_STARTED && done == 0);
+        take_three(&queues[i], heads);
+    }
+    given_back_by_one_call(&queues[0], &queues[1], heads, 2);
+    take_three_packed(&queues[0]);
+    take_three_packed(&queues[1]);
+    given_back_by_one_call(&queues[0], &queues[1], ids, 3);
+    covretin_queue_close(&queues[0]);
+    covretin_queue_close(&queues[1]);
+}
+
 /* A head that is given back is available again, and the entry that it was read from is read again. One that is adopted is used, and is not
  * followed. */
 static void given_back(void)
@@ -558,6 +730,57 @@ static void inflight_and_log(void)
     HOLDS(bit.byte == 1 && bit.mask == 32);
 }
 
+enum { MANY = 100, APART = 0x2000, REGION = 0x1000 };
+
+/* One of many regions, between which there is room. */
+static covretin_guest_region region_of_many(unsigned i)
+{
+    uint64_t at = (uint64_t)i * APART;
+    return (covretin_guest_region){GUEST + at, REGION, USER + at, (uint64_t)(uintptr_t)memory + at};
+}
+
+/* Each that is there is found, by all of its bytes and by its last, whatever was found before; what is beyond it, or not there, is not. */
+static void find_each(covretin_queue *queue, const bool *are_there)
+{
+    for (unsigned k = 0; k < 2 * MANY; k++) {
+        unsigned i = k * 37 % MANY;
+        covretin_guest_region region = region_of_many(i);
+        uint64_t last = region.guest_addr + REGION - 1;
+        enum covretin_queue_error wanted = are_there[i] ? COVRETIN_QUEUE_OK : COVRETIN_QUEUE_NOT_IN_GUEST;
+        covretin_range all = {region.host_addr, REGION}, end = {region.host_addr + REGION - 1, 1}, found;
+        HOLDS(covretin_queue_translate(queue, false, region.guest_addr, REGION, &found) == wanted);
+        HOLDS(!are_there[i] || memcmp(&found, &all, sizeof all) == 0);
+        HOLDS(covretin_queue_translate(queue, false, last, 1, &found) == wanted);
+        HOLDS(!are_there[i] || memcmp(&found, &end, sizeof end) == 0);
+        HOLDS(covretin_queue_translate(queue, true, region.user_addr, REGION, &found) == wanted);
+        HOLDS(covretin_queue_translate(queue, false, last, 2, &found) == COVRETIN_QUEUE_NOT_IN_GUEST);
+        HOLDS(covretin_queue_translate(queue, false, region.guest_addr - 1, 2, &found) == COVRETIN_QUEUE_NOT_IN_GUEST);
+    }
+}
+
+/* Regions come in no order, and go in another. */
+static void regions_in_any_order(void)
+{
+    covretin_queue queue = {0};
+    bool are_there[MANY] = {false};
+    HOLDS(covretin_queue_open(&queue) == 0);
+    for (unsigned k = 0; k < MANY; k++) {
+        covretin_guest_region region = region_of_many(k * 61 % MANY);
+        HOLDS(covretin_queue_add_region(&queue, &region) == 0);
+        are_there[k * 61 % MANY] = true;
+        if (k % 25 == 24)
+            find_each(&queue, are_there);
+    }
+    for (unsigned k = 0; k < MANY; k++) {
+        covretin_guest_region region = region_of_many(k * 17 % MANY);
+        HOLDS(covretin_queue_remove_region(&queue, region.guest_addr, region.size, region.user_addr) == 0);
+        are_there[k * 17 % MANY] = false;
+        if (k % 25 == 24)
+            find_each(&queue, are_there);
+    }
+    covretin_queue_close(&queue);
+}
+
 int main(void)
 {
     /* by steps; by walks of a descriptor each, of two into a place, and of all into all */
@@ -572,7 +795,12 @@ int main(void)
         RUN(adjoining_regions_packed);
         RUN(many_borders);
     }
+    RUN(regions_in_any_order);
     RUN(walks_of_no_chain);
+    RUN(heads_at_once);
+    RUN(taken_by_one_call);
+    RUN(taken_by_one_call_packed);
+    RUN(given_back_at_once);
     RUN(given_back);
     RUN(taken_again);
     RUN(packed_inflight);

@@ -1,7 +1,12 @@
 /* Replies to a session alone, with no socket: each form of them, those that are none, and backends that hide something behind
  * one. */
 #include "alone.h"
+#include "covretin_backend.h"
 #include "testing.h"
+
+#define SAMPLE_FD 7
+#define SAMPLE_FEATURES COVRETIN_ASKED_PROTOCOL_FEATURES
+#include "samples.h"
 
 /* -- Replies of each form -- */
 
@@ -61,14 +66,22 @@ static void numbers(void)
     covretin_close(&session);
 }
 
+/* Each request that is acknowledged and nothing else, done and refused; those of postcopy want others before them. */
 static void acknowledgements(void)
 {
     open_with(COVRETIN_ASKED_PROTOCOL_FEATURES);
     EXPECT(0, covretin_set_hdr_flags(&session, COVRETIN_NEED_REPLY));
-    EXPECT(0, covretin_ask_set_mtu(&session, 1500));
-    EXPECT(COVRETIN_OK, replied(20, zeros, 8, -1));
-    EXPECT(0, covretin_ask_set_mtu(&session, 0));
-    EXPECT(COVRETIN_BACKEND_INTERNAL_ERROR, replied(20, "\1\0\0\0\0\0\0\0", 8, -1));
+#define REQUEST(name, call, feature, takes, sees, replies, reply, fds) \
+    EACH_##reply(COVRETIN_PROTOCOL_##feature, COVRETIN_CALL_##name, covretin_ask_##call(&session TAKES_##takes))
+#define EACH_OWN(feature, code, asked)
+#define EACH_ACK(feature, code, asked) \
+    if ((feature) != COVRETIN_PROTOCOL_PAGEFAULT && least(code) == 8) { \
+        EXPECT(0, asked); \
+        EXPECT(COVRETIN_OK, replied(code, zeros, 8, -1)); \
+        EXPECT(0, asked); \
+        EXPECT(COVRETIN_BACKEND_INTERNAL_ERROR, replied(code, "\1\0\0\0\0\0\0\0", 8, -1)); \
+    }
+#include "requests.def"
     EXPECT(0, covretin_ask_set_mem_table(&session, regions, 2));
     EXPECT(COVRETIN_OK, replied(5, zeros, 8, -1));
     EXPECT(0, covretin_answer_bases(&session, (uint64_t[2]){0}, 2, &count));

@@ -4,6 +4,10 @@
 
 #include <string.h>
 
+#define SAMPLE_FD 7
+#define SAMPLE_FEATURES 0
+#include "samples.h"
+
 /* -- Calls out of turn -- */
 
 static void without_session(void)
@@ -273,7 +277,7 @@ static void lacks_none_where_no_call_is_made(void)
     EXPECT(COVRETIN_NO_SESSION, covretin_ask_get_config(&session, 0, 0x10000, 0));
 }
 
-/* Which feature an ask lacked: of the last ask alone. */
+/* Which feature an ask lacked: of the last ask alone. Each request is asked that wants one; without LOG_SHMFD a log's base goes alone. */
 static void inactive(void)
 {
     EXPECT(COVRETIN_OK, covretin_open(&session, 2));
@@ -281,18 +285,16 @@ static void inactive(void)
     EXPECT(COVRETIN_INACTIVE_FEATURE, covretin_ask_get_protocol_features(&session));
     EXPECT(COVRETIN_FEATURE_PROTOCOL_FEATURES, covretin_inactive(&session));
     EXPECT(COVRETIN_FEATURE_PROTOCOL_FEATURES, covretin_inactive(&session));
-    EXPECT(COVRETIN_INACTIVE_OPERATION, covretin_ask_get_queue_num(&session));
-    EXPECT(COVRETIN_PROTOCOL_MQ, covretin_inactive(&session));
-    EXPECT(COVRETIN_INACTIVE_OPERATION, covretin_ask_get_config(&session, 0, 4, 0));
-    EXPECT(COVRETIN_PROTOCOL_CONFIG, covretin_inactive(&session));
-    EXPECT(COVRETIN_INACTIVE_OPERATION, covretin_ask_get_shmem_config(&session));
-    EXPECT(COVRETIN_PROTOCOL_SHMEM, covretin_inactive(&session));
-    EXPECT(COVRETIN_INACTIVE_OPERATION, covretin_ask_set_backend_request_fd(&session, 7));
-    EXPECT(COVRETIN_PROTOCOL_BACKEND_REQ, covretin_inactive(&session));
+#define REQUEST(name, call, feature, takes, ...) \
+    if (COVRETIN_PROTOCOL_##feature != 0 && COVRETIN_PROTOCOL_##feature != COVRETIN_PROTOCOL_LOG_SHMFD) { \
+        EXPECT(COVRETIN_INACTIVE_OPERATION, covretin_ask_##call(&session TAKES_##takes)); \
+        EXPECT(COVRETIN_PROTOCOL_##feature, covretin_inactive(&session)); \
+    }
+#include "requests.def"
     EXPECT(COVRETIN_INVALID_PARAM, covretin_ask_set_vring_num(&session, 9, 128));
     EXPECT(0, covretin_inactive(&session));
-    EXPECT(COVRETIN_INACTIVE_OPERATION, covretin_ask_set_mtu(&session, 1500));
-    EXPECT(COVRETIN_PROTOCOL_MTU, covretin_inactive(&session));
+    EXPECT(COVRETIN_INACTIVE_OPERATION, covretin_ask_get_shmem_config(&session));
+    EXPECT(COVRETIN_PROTOCOL_SHMEM, covretin_inactive(&session));
     EXPECT(0, covretin_ask_set_owner(&session));
     EXPECT(0, covretin_inactive(&session));
     EXPECT(0, covretin_take(&session));

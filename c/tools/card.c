@@ -2,9 +2,10 @@
 /* covretin-net: a network card (virtio 1.2, 5.1) whose other end is a tap of this machine, or a socket of another card: covretin-net, or QEMU's
  * own by -netdev dgram. `covretin-net --help` says how it is called.
  *
- * A frame goes one way as the guest sent it, behind no header; the other way behind a header of zeros, but that num_buffers is 1, in one
- * buffer. A frame that came and for which the guest has no buffer waits, and so do those behind it, where the system keeps them; one that
- * the other end does not take is dropped, as on a wire. */
+ * A frame goes one way as the guest sent it, behind no header; the other way behind a header of zeros, but for num_buffers: in one buffer, or in
+ * as many as it takes where the driver accepted MRG_RXBUF. A frame that came and for which the guest has no buffer waits, and so do those behind
+ * it, where the system keeps them; one that the other end does not take is dropped, as on a wire. With several pairs of queues what comes of a
+ * flow goes to the pair by which the guest sent of it last (virtio 1.2, 5.1.6.5.5). */
 #ifndef _GNU_SOURCE
 #define _GNU_SOURCE
 #endif
@@ -25,8 +26,9 @@
 #include <time.h>
 #include <unistd.h>
 
-enum { RECEIVE, TRANSMIT, QUEUES }; /* as the guest names them */
-enum { SHORTEST = 14, LONGEST = 65535, MOST_FRAMES = 64, MOST_BUFFERS = 16, ADDRESS_BYTES = 6 };
+enum { RECEIVE, TRANSMIT, PAIR, MOST_PAIRS = 8 }; /* queues as the guest names them, in pairs; behind these is that for control */
+enum { SHORTEST = 14, LONGEST = 65535, MOST_FRAMES = 64, MOST_BUFFERS = 16, MOST_MERGED = 64, ADDRESS_BYTES = 6 };
+enum { FLOWS = 256, IPV4 = 0x0800, IPV6 = 0x86dd, TCP = 6, UDP = 17 };
 enum { SEND_RARP = 19, TELLS_PLACE = 8, PLACE = 60 }; /* a request, its body and the frame that it asks for, in bytes */
 
 /* What the arguments say. */
@@ -35,7 +37,10 @@ static uint8_t address[ADDRESS_BYTES];
 
 static int wire = -1, record = -1;
 static struct sockaddr_un far_end;
-static size_t header_size = sizeof(struct virtio_net_hdr); /* without VERSION_1, where num_buffers is not there */
+static unsigned long pairs = 1;
+static size_t header_size;   /* of what the driver accepted: num_buffers is not always there */
+static bool merges;          /* a frame may come in many buffers */
+static uint8_t flows[FLOWS]; /* by which pair each was sent last */
 static uint8_t waiting[LONGEST];                           /* a frame that came, */
 static size_t waiting_size;                                /* of so many bytes, or none */
 static unsigned long sent, received, dropped;
@@ -88,17 +93,73 @@ static void hand_on(const uint8_t *frame, size_t size)
         dropped++;
 }
 
+static unsigned pair_of_bytes(const uint8_t *bytes)
+{
+    return (unsigned)bytes[0] << 8 | bytes[1];
+}
+
+/* The sum, without carries, of these bytes by pairs: whichever of two addresses comes first. */
+static unsigned sum_of(const uint8_t *bytes, size_t count)
+{
+    unsigned sum = 0;
+    for (size_t i = 0; i + 1 < count; i += 2)
+        sum ^= pair_of_bytes(bytes + i);
+    return sum;
+}
+
+/* Which flow a frame is of: one number for both ways. By its protocol addresses and ports, or by those of the cards. */
+static uint8_t flow_of(const uint8_t *frame, size_t size)
+{
+    const unsigned type = pair_of_bytes(frame + 12);
+    size_t addresses = 0, count = 12, ports = 0;
+    uint8_t protocol = 0;
+    if (type == IPV4 && size >= 38) {
+        addresses = 26, count = 8, ports = 14 + (frame[14] & 15u) * 4, protocol = frame[23];
+    } else if (type == IPV6 && size >= 58) {
+        addresses = 22, count = 32, ports = 54, protocol = frame[20];
+    }
+    unsigned sum = sum_of(frame + addresses, count);
+    if ((protocol == TCP || protocol == UDP) && ports + 4 <= size)
+        sum ^= sum_of(frame + ports, 4);
+    return (uint8_t)(sum >> 8 ^ sum);
+}
+
 /* (what may be zeros in the place of memory that was lost is no frame) */
-static void take_frame(void *none, covretin_request *request)
+static void take_frame(covretin_request *request)
 {
     static uint8_t frame[LONGEST + 1];
     size_t before = covretin_request_read(request, NULL, header_size), size = covretin_request_read(request, frame, sizeof frame);
-    (void)none;
-    if (before == header_size && size >= SHORTEST && size <= LONGEST && !covretin_request_is_lost(request))
+    if (before == header_size && size >= SHORTEST && size <= LONGEST && !covretin_request_is_lost(request)) {
+        flows[flow_of(frame, size)] = (uint8_t)(request->queue / PAIR);
         hand_on(frame, size);
-    else
+    } else
         dropped++;
-    covretin_request_done(request, 0);
+}
+
+/* What the driver asks of the card itself, where no frontend answers that: to use so many pairs. How many bytes the answer has. */
+static uint32_t take_control(covretin_request *request)
+{
+    struct virtio_net_ctrl_hdr asked = {0};
+    uint16_t wanted = 0;
+    size_t size = covretin_request_read(request, &asked, sizeof asked) + covretin_request_read(request, &wanted, sizeof wanted);
+    bool is_pairs = size == sizeof asked + sizeof wanted && asked.class == VIRTIO_NET_CTRL_MQ && asked.cmd == VIRTIO_NET_CTRL_MQ_VQ_PAIRS_SET;
+    uint8_t answer = is_pairs && wanted >= 1 && wanted <= pairs ? VIRTIO_NET_OK : VIRTIO_NET_ERR;
+    if (answer == VIRTIO_NET_OK)
+        memset(flows, 0, sizeof flows);
+    return (uint32_t)covretin_request_write(request, &answer, sizeof answer);
+}
+
+static void take_all(void *none, covretin_request *const *requests, size_t count)
+{
+    uint32_t written[COVRETIN_DEVICE_BURST] = {0};
+    (void)none;
+    for (size_t i = 0; i < count; i++) {
+        if (requests[i]->queue == pairs * PAIR)
+            written[i] = take_control(requests[i]);
+        else
+            take_frame(requests[i]);
+    }
+    covretin_requests_done(requests, written, count);
 }
 
 /* Tells all who are behind the wire that a guest is here, which came from elsewhere and does not say so: by the frame that asks for the protocol
@@ -135,17 +196,56 @@ static size_t room_of(const covretin_request *buffer)
     return room;
 }
 
-/* Puts the frame that waits into a buffer of the guest's; those that are too small are given back with nothing in them. False: there is none. */
+/* The guest's buffers that a frame is put into. */
+struct buffers {
+    covretin_request *taken[MOST_MERGED];
+    uint32_t written[MOST_MERGED];
+    size_t count, room;
+};
+
+/* Takes buffers of a queue until they have room for so much, as many as may be of one frame. */
+static bool take_buffers(covretin_device *device, uint32_t queue, size_t size, struct buffers *buffers)
+{
+    const size_t most = merges ? MOST_MERGED : 1;
+    buffers->count = buffers->room = 0;
+    while (buffers->room < size && buffers->count < most) {
+        covretin_request *buffer = covretin_device_take(device, queue);
+        if (buffer == NULL)
+            break;
+        buffers->room += room_of(buffer);
+        buffers->taken[buffers->count++] = buffer;
+    }
+    memset(buffers->written, 0, sizeof buffers->written);
+    return buffers->count != 0;
+}
+
+/* Puts the frame that waits into buffers that have room for it, with its header in the first. */
+static void fill(struct buffers *buffers)
+{
+    const struct virtio_net_hdr_v1 header = {.num_buffers = (uint16_t)buffers->count};
+    uint32_t begun = (uint32_t)covretin_request_write(buffers->taken[0], &header, header_size);
+    size_t put = 0;
+    for (size_t i = 0; i < buffers->count; i++) {
+        size_t part = covretin_request_write(buffers->taken[i], waiting + put, waiting_size - put);
+        buffers->written[i] = (uint32_t)part + (i == 0 ? begun : 0);
+        put += part;
+    }
+}
+
+/* Gives the frame that waits to the guest. Buffers that have no room for it are given back with nothing in them. False: there is none. */
 static bool give_frame(covretin_device *device)
 {
-    const struct virtio_net_hdr_v1 header = {.num_buffers = 1};
+    struct buffers buffers;
+    const uint32_t queue = flows[flow_of(waiting, waiting_size)] * PAIR;
     for (unsigned i = 0; i < MOST_BUFFERS; i++) {
-        covretin_request *buffer = covretin_device_take(device, RECEIVE);
-        if (buffer == NULL)
+        /* (a pair that the guest uses no more has none) */
+        if (!take_buffers(device, queue, header_size + waiting_size, &buffers) &&
+            (queue == RECEIVE || !take_buffers(device, RECEIVE, header_size + waiting_size, &buffers)))
             return false;
-        bool has_room = room_of(buffer) >= header_size + waiting_size;
-        uint32_t written = has_room ? (uint32_t)covretin_request_write(buffer, &header, header_size) : 0;
-        covretin_request_done(buffer, has_room ? written + (uint32_t)covretin_request_write(buffer, waiting, waiting_size) : 0);
+        bool has_room = buffers.room >= header_size + waiting_size;
+        if (has_room)
+            fill(&buffers);
+        covretin_requests_done(buffers.taken, buffers.written, buffers.count);
         if (has_room) {
             received++;
             return true;
@@ -182,12 +282,13 @@ static void take_features(void *none, uint64_t features, uint64_t protocol_featu
 {
     (void)none;
     (void)protocol_features;
-    header_size = features & COVRETIN_DEVICE_VERSION_1 ? sizeof(struct virtio_net_hdr_v1) : sizeof(struct virtio_net_hdr);
+    merges = features >> VIRTIO_NET_F_MRG_RXBUF & 1;
+    header_size = merges || (features & COVRETIN_DEVICE_VERSION_1) ? sizeof(struct virtio_net_hdr_v1) : sizeof(struct virtio_net_hdr);
 }
 
 static bool read_config(void *none, uint32_t offset, uint8_t *bytes, uint32_t size)
 {
-    struct virtio_net_config space = {.status = VIRTIO_NET_S_LINK_UP};
+    struct virtio_net_config space = {.status = VIRTIO_NET_S_LINK_UP, .max_virtqueue_pairs = (uint16_t)pairs};
     (void)none;
     memcpy(space.mac, address, sizeof address);
     if (offset > sizeof space || size > sizeof space - offset)
@@ -201,14 +302,16 @@ static void tell_end(void *none, enum covretin_error error)
     printf("a frontend went: %s; %lu frames were sent, %lu received, and %lu dropped\n", covretin_error_text(error), sent, received, dropped);
     sent = received = dropped = 0;
     waiting_size = 0;
+    memset(flows, 0, sizeof flows);
     take_features(none, 0, 0);
 }
 
-static covretin_device_calls calls = {.features = (uint64_t)1 << VIRTIO_NET_F_MAC | (uint64_t)1 << VIRTIO_NET_F_STATUS,
+static covretin_device_calls calls = {.features = (uint64_t)1 << VIRTIO_NET_F_MAC | (uint64_t)1 << VIRTIO_NET_F_STATUS |
+                                                  (uint64_t)1 << VIRTIO_NET_F_MRG_RXBUF,
                                       .protocol_features = COVRETIN_PROTOCOL_RARP,
-                                      .queues = QUEUES,
+                                      .queues = PAIR,
                                       .taken_queues = (uint64_t)1 << RECEIVE,
-                                      .request = take_frame,
+                                      .requests = take_all,
                                       .accepted = take_features,
                                       .read_config = read_config,
                                       .input_ready = frames_came,
@@ -260,11 +363,24 @@ static bool has_address(void)
     return is_made;
 }
 
+/* (with several a driver says how many it uses) */
+static void offer_pairs(void)
+{
+    if (pairs == 1)
+        return;
+    calls.features |= (uint64_t)1 << VIRTIO_NET_F_MQ | (uint64_t)1 << VIRTIO_NET_F_CTRL_VQ;
+    calls.queues = (uint32_t)pairs * PAIR + 1;
+    for (unsigned long pair = 0; pair < pairs; pair++)
+        calls.taken_queues |= (uint64_t)1 << (pair * PAIR + RECEIVE);
+}
+
 static const char *prepare(void)
 {
     if (tap != NULL ? !open_tap() : !open_socket())
         return tap != NULL ? tap : local;
     calls.input = wire;
+    take_features(NULL, 0, 0);
+    offer_pairs();
     if (recording != NULL && !open_recording())
         return recording;
     return has_address() ? NULL : "an address";
@@ -317,6 +433,11 @@ static bool take_address(const char *value)
            value[end] == '\0' && (*it & 1) == 0 && memcmp(it, none, sizeof none) != 0;
 }
 
+static bool take_pairs(const char *value)
+{
+    return program_number(value, 1, MOST_PAIRS, &pairs);
+}
+
 static const char *lacks(void)
 {
     bool has_socket = local != NULL && remote != NULL;
@@ -332,6 +453,7 @@ int main(int argc, char **argv)
         {"local", "PATH", "the other end sends its frames to this Unix socket, a datagram each,", take_local},
         {"remote", "PATH", "and takes those of the guest at this one", take_remote},
         {"mac", "ADDRESS", "six bytes as 52:54:00:12:34:56, else ones that nobody else should have", take_address},
+        {"queue-pairs", "NUMBER", "1 to 8 pairs of queues, else 1", take_pairs},
         {"pcap", "FILE", "writes each frame that passes to a file, as tcpdump and Wireshark read it", take_recording},
         {NULL, NULL, NULL, NULL},
     };

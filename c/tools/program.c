@@ -4,6 +4,7 @@
 #ifndef _GNU_SOURCE
 #define _GNU_SOURCE
 #endif
+#include "counts.h"
 #include "program.h"
 
 #include <errno.h>
@@ -21,7 +22,7 @@ enum { ENDED_WELL, WRONG_MESSAGE, WRONG_ARGUMENTS, FAILED = 4 };
 enum { FIRST_GIVEN = 3, LAST_REQUESTS_MS = 50 };
 
 /* What the arguments say. */
-static const char *path;
+static const char *path, *metrics;
 static int given = -1;
 
 /* The lines that are shown: those of this level, and worse ones; or none. */
@@ -45,6 +46,12 @@ static bool take_fd(const char *value)
     bool is_right = program_number(value, FIRST_GIVEN, 1 << 20, &number);
     given = is_right ? (int)number : -1;
     return is_right;
+}
+
+static bool take_metrics(const char *value)
+{
+    metrics = value;
+    return *value != '\0';
 }
 
 static bool take_nothing(const char *value)
@@ -76,6 +83,7 @@ static const struct program_option common[] = {
     {"fd", "NUMBER", "serves this descriptor: a Unix socket that listens, or one that is connected", take_fd},
     {"calls-by-pipe", NULL, "also signals by pipes and sockets, as User Mode Linux wants: for a frontend that is trusted alone", take_pipes},
     {"log", "LEVEL", "says on standard error why a session ended (error), a request was refused (warning), who went (info); or none", take_log},
+    {"metrics", "PATH", "tells at this Unix socket what was counted, as text for Prometheus", take_metrics},
     {"print-capabilities", NULL, "prints what the device can do, as JSON; all other words are ignored", take_nothing},
     {"help", NULL, "shows this", take_nothing},
     {"version", NULL, "prints the version", take_nothing},
@@ -224,18 +232,11 @@ static void show(void *none, enum covretin_level level, const char *text)
 
 static covretin_device_stats stats;
 
-static unsigned long long read_count(const uint64_t *count)
-{
-    return __atomic_load_n(count, __ATOMIC_RELAXED);
-}
-
 /* Prints what was counted whenever SIGUSR1 comes, which is blocked in each thread. */
 static void *print_counts(void *signals)
 {
     for (int number; sigwait(signals, &number) == 0;)
-        printf("sessions %llu, requests %llu, bytes %llu, kicks %llu, calls %llu, refusals %llu, longest turn %llu microseconds\n",
-               read_count(&stats.sessions), read_count(&stats.requests), read_count(&stats.bytes), read_count(&stats.kicks),
-               read_count(&stats.calls), read_count(&stats.refusals), read_count(&stats.longest_turn) / 1000);
+        counts_print(&stats);
     return NULL;
 }
 
@@ -250,6 +251,7 @@ static int fail(const char *of, enum covretin_error error)
 static int end(int status)
 {
     notify("STOPPING=1");
+    counts_end();
     for (int waited = 0; it->is_busy != NULL && it->is_busy() && waited < LAST_REQUESTS_MS; waited++)
         usleep(1000);
     if (it->finish != NULL)
@@ -301,14 +303,9 @@ static int serve(void)
     return error == COVRETIN_OK ? serve_all(&listener, name) : end(fail(name, error));
 }
 
-int program_run(const struct program *program, char **words)
+/* Those words that only show something: the status, or -1 where there is none of them. */
+static int show_only(char **words)
 {
-    static covretin_device_calls calls;
-    static struct program counted;
-    static sigset_t wanted;
-    sigset_t ending;
-    pthread_t thread;
-    it = program;
     if (has_word(words, "--print-capabilities"))
         return puts(it->capabilities) < 0 || fflush(stdout) != 0 ? FAILED : ENDED_WELL;
     if (has_word(words, "--help")) {
@@ -317,18 +314,46 @@ int program_run(const struct program *program, char **words)
     }
     if (has_word(words, "--version"))
         return printf("%s %s\n", it->name, covretin_version()) < 0 || fflush(stdout) != 0 ? FAILED : ENDED_WELL;
-    int status = take_arguments(words);
+    return -1;
+}
+
+/* Blocks the signals that are waited for, in the device's threads, too. */
+static void block_signals(sigset_t *asking)
+{
+    sigset_t all;
+    sigemptyset(asking);
+    sigaddset(asking, SIGUSR1);
+    all = *asking;
+    sigaddset(&all, SIGTERM);
+    sigaddset(&all, SIGINT);
+    sigprocmask(SIG_BLOCK, &all, NULL);
+}
+
+/* Begins to tell what is counted, where somebody asks. */
+static int begin_counts(sigset_t *asking)
+{
+    pthread_t thread;
+    enum covretin_error error = metrics != NULL ? counts_serve(&stats, it->name, metrics) : COVRETIN_OK;
+    if (error != COVRETIN_OK)
+        return fail(metrics, error);
+    return pthread_create(&thread, NULL, print_counts, asking) == 0 ? ENDED_WELL : fail("a thread", COVRETIN_OUT_OF_MEMORY);
+}
+
+int program_run(const struct program *program, char **words)
+{
+    static covretin_device_calls calls;
+    static struct program counted;
+    static sigset_t asking;
+    it = program;
+    int status = show_only(words);
+    if (status >= 0)
+        return status;
+    status = take_arguments(words);
     if (status != ENDED_WELL)
         return status;
     covretin_set_log(is_silent ? NULL : show, NULL);
     setvbuf(stdout, NULL, _IOLBF, 0); /* also in a file, so that who is killed has said what it did */
-    sigemptyset(&ending);
-    sigaddset(&ending, SIGTERM);
-    sigaddset(&ending, SIGINT);
-    sigaddset(&ending, SIGUSR1);
-    sigprocmask(SIG_BLOCK, &ending, NULL); /* in the device's threads, too */
-    sigemptyset(&wanted);
-    sigaddset(&wanted, SIGUSR1);
+    block_signals(&asking);
     errno = 0;
     const char *lacked = it->prepare != NULL ? it->prepare() : NULL;
     if (lacked != NULL) {
@@ -341,7 +366,6 @@ int program_run(const struct program *program, char **words)
     counted = *it;
     counted.calls = &calls;
     it = &counted;
-    if (pthread_create(&thread, NULL, print_counts, &wanted) != 0)
-        return fail("a thread", COVRETIN_OUT_OF_MEMORY);
-    return serve();
+    status = begin_counts(&asking);
+    return status == ENDED_WELL ? serve() : end(status);
 }

@@ -4,6 +4,8 @@
 //! It has as many virtqueues as it is told, one machine at a time, and threads that do requests: reads, writes, flushes, sectors that are
 //! discarded or zeroed, and its name. A sector behind the disk's end makes the request fail; a chain that breaks a rule of virtio ends its
 //! queue until a reset. Where the file grows the guest is told. A machine has it by `-device vhost-user-blk-pci,chardev=disk,num-queues=2`.
+//! With the word `pipe` behind these, a frontend may have itself signalled by pipes and sockets, as User Mode Linux, and is trusted with this
+//! disk's time.
 use std::env;
 use std::ffi::OsString;
 use std::fs::{symlink_metadata, File, OpenOptions};
@@ -17,7 +19,7 @@ use std::sync::{Arc, Mutex, MutexGuard, PoisonError};
 use std::thread::{sleep, spawn};
 use std::time::Duration;
 
-use covretin::device::{serve, Device, Ended, Request};
+use covretin::device::{serve, Device, Ended, Request, MAX_BURST};
 use covretin::queue::{self, VolatileSlice};
 use covretin::vhost_user::message::{FrontendReq, VhostUserProtocolFeatures};
 use covretin::vhost_user::{Backend, Error, Listener, VhostUserFrontendReqHandler};
@@ -40,9 +42,11 @@ fn main() -> ExitCode {
     let words: Vec<OsString> = env::args_os().skip(1).collect();
     let queues = words.get(2).and_then(|it| it.to_str()?.parse().ok()).filter(|it| (1..=64).contains(it));
     let ended = match (words.as_slice(), queues) {
-        ([path, image, _], Some(queues)) => listen(path, image, queues),
+        ([path, image, _, how @ ..], Some(queues)) if how.is_empty() || how == ["pipe"] => {
+            listen(path, image, queues, !how.is_empty())
+        }
         _ => {
-            eprintln!("usage: disk PATH IMAGE RINGS");
+            eprintln!("usage: disk PATH IMAGE RINGS [pipe]");
             return ExitCode::from(1);
         }
     };
@@ -54,13 +58,13 @@ fn main() -> ExitCode {
 }
 
 /// Serves one machine after another.
-fn listen(path: &OsString, image: &OsString, queues: usize) -> io::Result<()> {
+fn listen(path: &OsString, image: &OsString, queues: usize, calls_by_pipe: bool) -> io::Result<()> {
     let image = OpenOptions::new().read(true).write(true).open(image)?;
     let (requests, taken) = channel();
     let (requests, taken, sectors) = (Mutex::new(requests), Arc::new(Mutex::new(taken)), AtomicU64::new(0));
-    let disk = Arc::new(Disk { image, sectors, queues, requests, channel: Mutex::new(None) });
+    let disk = Arc::new(Disk { image, sectors, queues, calls_by_pipe, requests, channel: Mutex::new(None) });
     for (disk, taken) in (0..THREADS).map(|_| (disk.clone(), taken.clone())) {
-        spawn(move || from_fn(|| locked(&taken).recv().ok()).for_each(|(request, head)| disk.finish(request, head, true)));
+        spawn(move || from_fn(|| locked(&taken).recv().ok()).for_each(|job| disk.finish(job)));
     }
     let looking = disk.clone();
     spawn(move || loop {
@@ -86,6 +90,7 @@ struct Disk {
     image: File,
     sectors: AtomicU64,
     queues: usize,
+    calls_by_pipe: bool,
     requests: Mutex<Sender<Job>>,
     channel: Mutex<Option<Backend>>,
 }
@@ -93,6 +98,10 @@ struct Disk {
 impl Device for Disk {
     fn queues(&self) -> usize {
         self.queues
+    }
+
+    fn calls_by_pipe(&self) -> bool {
+        self.calls_by_pipe
     }
 
     fn features(&self) -> u64 {
@@ -107,13 +116,17 @@ impl Device for Disk {
         VhostUserProtocolFeatures::CONFIG
     }
 
-    fn request(&self, mut request: Request) {
-        if request.is_again() {
-            eprintln!("disk: a request of queue {} is done again", request.queue());
-        }
-        let mut head = [0; 16];
-        let head = request.read_exact(&mut head).ok().map(|()| head);
-        self.finish(request, head, false);
+    fn burst(&self) -> usize {
+        MAX_BURST
+    }
+
+    fn request(&self, request: Request) {
+        self.requests(vec![request]);
+    }
+
+    /// What has not to wait is done here, and given back together.
+    fn requests(&self, requests: Vec<Request>) {
+        Request::complete_all(requests.into_iter().filter_map(|request| self.begin(request)));
     }
 
     /// How many sectors, how many parts, how many queues, and how much is discarded or zeroed at once.
@@ -158,27 +171,47 @@ impl Disk {
         sectors != 0 && sectors != self.sectors.swap(sectors, Ordering::SeqCst)
     }
 
-    /// Does a request, and gives it back, or where that has to wait, to a thread. Its last byte is that of its status.
-    fn finish(&self, mut request: Request, head: Option<[u8; 16]>, may_wait: bool) {
+    /// Does a request, or where that has to wait, gives it to a thread. What was done is to be given back, with so many bytes.
+    fn begin(&self, mut request: Request) -> Option<(Request, u32)> {
+        if request.is_again() {
+            eprintln!("disk: a request of queue {} is done again", request.queue());
+        }
+        let mut head = [0; 16];
+        let head = request.read_exact(&mut head).ok().map(|()| head);
+        match self.serve(&mut request, head, false) {
+            Some(written) => Some((request, written)),
+            None => {
+                // (where no thread takes it, it is dropped, which gives it back)
+                drop(locked(&self.requests).send((request, head)));
+                None
+            }
+        }
+    }
+
+    /// Does what had to wait.
+    fn finish(&self, (mut request, head): Job) {
+        let written = self.serve(&mut request, head, true).unwrap_or(0);
+        request.complete(written);
+    }
+
+    /// Does a request: how many bytes were written, of which the last one is that of its status. None: it has to wait, and may not.
+    fn serve(&self, request: &mut Request, head: Option<[u8; 16]>, may_wait: bool) -> Option<u32> {
         let done = match (request.writable_len().checked_sub(1), head) {
-            (None, _) => return request.complete(0),
-            (Some(room), Some(head)) if !request.is_lost() => self.transfer(&mut request, head, room, may_wait),
+            (None, _) => return Some(0),
+            (Some(room), Some(head)) if !request.is_lost() => self.transfer(request, head, room, may_wait),
             // Zeros that stand for what is gone are no request.
             _ => Err(io::ErrorKind::InvalidData.into()),
         };
         let (written, status) = match done {
             Ok(written) => (written, 0),
-            // (where no thread takes it, it is dropped, which gives it back)
-            Err(cause) if cause.kind() == io::ErrorKind::WouldBlock && !may_wait => {
-                return drop(locked(&self.requests).send((request, head)))
-            }
+            Err(cause) if cause.kind() == io::ErrorKind::WouldBlock && !may_wait => return None,
             Err(cause) if cause.kind() == io::ErrorKind::Unsupported => (0, 2),
             Err(_) => (0, 1),
         };
         if let Some(last) = request.writable().last() {
             let _ = last.offset(last.len() - 1).map(|place| place.copy_from(&[status]));
         }
-        request.complete(written + 1);
+        Some(written + 1)
     }
 
     /// Does what the header says (virtio 1.2, 5.2.6), with so much room: how many bytes were written. WouldBlock: it has to wait, and may not.

@@ -1,5 +1,6 @@
 // SPDX-License-Identifier: Apache-2.0
 #![doc = include_str!("../README.md")]
+#![deny(missing_debug_implementations)]
 #![deny(missing_docs)]
 #![deny(unsafe_code)]
 #![deny(unsafe_op_in_unsafe_fn)]
@@ -15,8 +16,13 @@ mod iotlb;
 #[path = "tests/owning.rs"]
 mod owning;
 pub mod queue;
+// (some are said in C alone, or by the log alone)
+#[allow(dead_code)]
+mod reasons;
 pub mod tap;
+mod telling;
 pub mod vhost_user;
+mod why;
 
 pub use backend::*;
 pub use iotlb::*;

@@ -15,7 +15,7 @@ use common::device::*;
 use common::*;
 use covretin::vhost_user::{BackendListener, Listener};
 
-/// The program; how it is compiled, ./test-rust knows.
+/// The program; how it is compiled, ./test rust knows.
 const PROGRAM: &str = "COVRETIN_FRONTEND";
 
 /// The text that a file has from here on, up to the first zero.

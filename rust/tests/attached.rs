@@ -27,7 +27,7 @@ fn no_refused_request_waits_for_a_socket() {
         for (count, request, wanted) in [
             (1, message(3, ASKS, &[]), "InvalidMessage"),
             (2, message(12, ASKS, &[0; 8]), "InvalidMessage"),
-            (1, message(7, ASKS, &[]), "InvalidOperation(\"request not served\")"),
+            (1, message(7, ASKS, &[]), "InvalidOperation(\"nobody serves it\")"),
             (1, message(33, WANTS, &[]), "NotUnixSocket"),
             (33, message(3, ASKS, &[]), "IncorrectFds"),
             (200, message(3, ASKS, &[]), "IncorrectFds"),

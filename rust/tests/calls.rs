@@ -5,6 +5,7 @@ mod common;
 use std::fs::File;
 use std::os::unix::io::{AsRawFd, OwnedFd};
 
+use common::requests::*;
 use common::*;
 use covretin::vhost_user::message::*;
 use covretin::vhost_user::{Frontend, Profile, VhostUserFrontend};
@@ -64,24 +65,13 @@ fn region(guest: u64, file: &File) -> VhostUserMemoryRegionInfo {
     }
 }
 
+/// Each request of a plain form.
 #[test]
-fn set_features() {
-    acknowledged(2, "03000040 00000000", 0, |it, _| it.set_features(0x4000_0003));
-}
-
-#[test]
-fn set_owner() {
-    acknowledged(3, "", 0, |it, _| it.set_owner());
-}
-
-#[test]
-fn reset_owner() {
-    acknowledged(4, "", 0, |it, _| it.reset_owner());
-}
-
-#[test]
-fn reset_device() {
-    acknowledged(34, "", 0, |it, _| it.reset_device());
+fn plain_forms() {
+    for (it, body, _) in plain_requests() {
+        println!("{}", it.name);
+        acknowledged(it.code as u32, body, usize::from(it.sends), |frontend, files| (it.call)(frontend, files[0].as_raw_fd()));
+    }
 }
 
 #[test]
@@ -99,11 +89,6 @@ fn set_mem_table() {
 #[test]
 fn set_log_fd() {
     acknowledged(7, "", 1, |it, files| it.set_log_fd(files[0].as_raw_fd()));
-}
-
-#[test]
-fn set_vring_num() {
-    acknowledged(8, "03000000 00010000", 0, |it, _| it.set_vring_num(3, 256));
 }
 
 #[test]
@@ -132,29 +117,9 @@ fn set_packed_vring_base() {
 }
 
 #[test]
-fn set_vring_kick() {
-    acknowledged(12, "0300000000000000", 1, |it, files| it.set_vring_kick(3, &files[0]));
-}
-
-#[test]
-fn set_vring_call() {
-    acknowledged(13, "0000000000000000", 1, |it, files| it.set_vring_call(0, &files[0]));
-}
-
-#[test]
-fn set_vring_err() {
-    acknowledged(14, "0100000000000000", 1, |it, files| it.set_vring_err(1, &files[0]));
-}
-
-#[test]
 fn set_vring_enable() {
     acknowledged(18, "01000000 01000000", 0, |it, _| it.set_vring_enable(1, true));
     acknowledged(18, "01000000 00000000", 0, |it, _| it.set_vring_enable(1, false));
-}
-
-#[test]
-fn set_mtu() {
-    acknowledged(20, "dc05000000000000", 0, |it, _| it.set_mtu(1500));
 }
 
 #[test]

@@ -128,6 +128,26 @@ fn serves_a_packed_queue() {
     });
 }
 
+/// DPDK's virtio_user says of a packed ring where it goes on as of a split one, by 16 bits alone: what is used is there, too.
+#[test]
+fn a_packed_queue_begins_where_half_a_base_says() {
+    counted(|| {
+        let mut machine = Machine::of(RING_PACKED);
+        machine.negotiate(RING_PACKED);
+        let ring = Ring::of(&machine, 2);
+        machine.frontend.set_vring_base(2, 0x8002).unwrap();
+        machine.memory.write_all_at(b"packed", BUFFERS).unwrap();
+        ring.start_packed(&mut machine.frontend, 4);
+        ring.describe(3, (GUEST + BUFFERS + 0x100, 64, 1, 0x80 | WRITE));
+        ring.describe(2, (GUEST + BUFFERS, 6, 1, 0x80 | NEXT));
+        ring.kick();
+        assert!(is_signalled(&ring.call, LIMIT as i32));
+        assert_eq!((6, 1), (ring.get16(0, 2 * 16 + 8), ring.get16(0, 2 * 16 + 12)));
+        assert_eq!(0, machine.frontend.get_vring_base(2).unwrap());
+        machine.end();
+    });
+}
+
 /// Whoever stops a ring is answered once its requests are done, in any order.
 #[test]
 fn completes_later() {
@@ -383,12 +403,18 @@ fn bears_anything_in_a_packed_queue() {
     counted(|| bears_anything(RING_PACKED, INDIRECT_DESC | RING_PACKED, 0));
 }
 
-/// Both for as many seeds as COVRETIN_SEEDS says, behind the first: by hand, for as long as one likes.
+/// The seeds that COVRETIN_SEEDS names as FIRST-LAST, or the one that it names; 1 without.
+fn seeds() -> std::ops::RangeInclusive<u64> {
+    let named = std::env::var("COVRETIN_SEEDS").unwrap_or("1".to_string());
+    let (first, last) = named.split_once('-').unwrap_or((&named, &named));
+    first.parse().unwrap()..=last.parse().unwrap()
+}
+
+/// Both for other seeds: by hand, for as long as one likes.
 #[test]
 #[ignore]
 fn bears_anything_for_long() {
-    let seeds = std::env::var("COVRETIN_SEEDS").map_or(1, |count| count.parse().unwrap());
-    for seed in 1..=seeds {
+    for seed in seeds() {
         counted(|| bears_anything(0, INDIRECT_DESC | EVENT_IDX, seed));
         counted(|| bears_anything(RING_PACKED, INDIRECT_DESC | RING_PACKED, seed));
     }

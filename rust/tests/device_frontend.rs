@@ -35,6 +35,10 @@ fn never_waits_for_a_call() {
         let (mine, other) = UnixStream::pair().unwrap();
         for (mut reads, writes) in [pipe(), (File::from(OwnedFd::from(mine)), File::from(OwnedFd::from(other)))] {
             let mut count = [0; 8];
+            machine.device.has(|its| its.by_pipe = false);
+            failed("BackendInternalError", machine.frontend.set_vring_call(0, &writes));
+            failed("BackendInternalError", machine.frontend.set_vring_err(0, &writes));
+            machine.device.has(|its| its.by_pipe = true);
             machine.frontend.set_vring_call(0, &writes).unwrap();
             ring.post(0);
             assert_eq!((0, 4), ring.used());

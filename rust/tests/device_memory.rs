@@ -12,7 +12,7 @@ use std::time::Duration;
 use common::lingering::{lingers, Lingering};
 use common::machine::*;
 use common::*;
-use covretin::device::RING_PACKED;
+use covretin::device::{Device, MAX_QUEUE_SIZE, RING_PACKED};
 use covretin::queue::{self, VolatileSlice};
 use covretin::vhost_user::message::*;
 use covretin::vhost_user::VhostUserFrontend;
@@ -225,7 +225,8 @@ fn goes_on_in_a_packed_ring() {
     });
 }
 
-/// Regions come and go while a request is under way, whose bytes stay; one that lies nowhere breaks its queue, until a reset.
+/// Regions come and go while a request is under way, whose bytes stay; one that lies nowhere breaks its queue, until a reset. The same region may
+/// be given many times, and goes once it was taken back as often.
 #[test]
 fn regions_come_and_go() {
     counted(|| {
@@ -234,15 +235,22 @@ fn regions_come_and_go() {
         let (rings, buffers) = (machine.region(0, BUFFERS), machine.region(BUFFERS, MEMORY - BUFFERS));
         let odd = machine.region(BUFFERS, 0x1000);
         let mut ring = Ring::of(&machine, 0);
+        let queues = machine.device.queues();
         assert_eq!(509, machine.frontend.get_max_mem_slots().unwrap());
         machine.frontend.add_mem_region(&rings).unwrap();
         machine.frontend.add_mem_region(&buffers).unwrap();
         failed("BackendInternalError", machine.frontend.add_mem_region(&odd)); // it overlaps
+        for _ in 0..queues {
+            machine.frontend.add_mem_region(&buffers).unwrap();
+        }
+        failed("BackendInternalError", machine.frontend.add_mem_region(&buffers)); // more often than there are queues
         ring.start(&mut machine.frontend, 0);
         machine.device.has(|its| its.keeps = true);
         ring.write_request(0, "kept");
         ring.post(0);
         machine.device.wait_until("it has one", |its| its.kept.len() == 1);
+        (0..queues).for_each(|_| machine.frontend.remove_mem_region(&buffers).unwrap());
+        failed("BackendInternalError", machine.frontend.add_mem_region(&odd)); // it is there still
         machine.frontend.remove_mem_region(&buffers).unwrap();
         failed("BackendInternalError", machine.frontend.remove_mem_region(&buffers));
         answer(machine.device.has(|its| its.kept.pop()).unwrap());
@@ -300,6 +308,29 @@ fn logs_what_it_writes() {
         let set: Vec<usize> = (0..0x4000 * 8).filter(|page| found[page / 8] & 1 << (page % 8) != 0).collect();
         assert_eq!(vec![GUEST as usize / 4096 + 2, (GUEST + BUFFERS) as usize / 4096], set);
         machine.end();
+    });
+}
+
+/// A queue may be as large as the device says, and no larger; nor larger than any.
+#[test]
+fn takes_no_larger_queue() {
+    counted(|| {
+        for most in [SIZE, 2 * MAX_QUEUE_SIZE] {
+            let mut machine = Machine::of(0);
+            machine.device.has(|its| its.most = Some(most));
+            machine.negotiate(0);
+            let most = most.min(MAX_QUEUE_SIZE);
+            let it = &mut machine.frontend;
+            failed("BackendInternalError", it.set_vring_num(0, 2 * most));
+            failed("BackendInternalError", it.set_vring_num(0, most + 1));
+            it.set_vring_num(0, most).unwrap();
+            let mut ring = Ring::in_memory(&machine.memory, 0);
+            ring.start(it, 0);
+            ring.write_request(0, "small");
+            ring.post(0);
+            assert_eq!((0, 5), ring.used());
+            machine.end();
+        }
     });
 }
 

@@ -24,7 +24,7 @@ use covretin::vhost_user::{Frontend, FrontendReqHandler, HandlerResult, VhostUse
 use covretin::{VhostBackend, VhostUserMemoryRegionInfo, VringConfigData};
 use vm_memory::{Bytes, FileOffset, GuestAddress, GuestMemory, GuestMemoryMmap};
 
-/// The program; how it is compiled, ./test-rust knows.
+/// The program; how it is compiled, ./test rust knows.
 const PROGRAM: &str = "COVRETIN_DISK";
 
 const MEMORY: u64 = 1 << 20;
@@ -76,7 +76,7 @@ impl Disk {
         let paths = [path("sock"), path("img")];
         write(&paths[1], (0..SECTORS * 512).map(|at| (at / 512) as u8).collect::<Vec<u8>>()).unwrap();
         let mut program = Command::new(env::var_os(PROGRAM).expect(PROGRAM));
-        let disk = Disk { process: program.args(&paths).arg("1").stderr(Stdio::null()).spawn().unwrap(), paths };
+        let disk = Disk { process: program.args(&paths).args(["1", "pipe"]).stderr(Stdio::null()).spawn().unwrap(), paths };
         disk.wait_until("it listens", || UnixStream::connect(&disk.paths[0]).is_ok());
         Rc::new(disk)
     }
@@ -418,12 +418,16 @@ fn regions_that_can_not_be() {
             ..region
         };
         let beyond = VhostUserMemoryRegionInfo { mmap_offset: MEMORY, ..behind };
-        failed("BackendInternalError", guest.frontend.add_mem_region(&region));
+        let half = VhostUserMemoryRegionInfo { memory_size: MEMORY / 2, ..region };
+        failed("BackendInternalError", guest.frontend.add_mem_region(&half)); // it overlaps
         failed("BackendInternalError", guest.frontend.set_mem_table(&[behind, beyond]));
         failed("BackendInternalError", guest.frontend.set_mem_table(&[behind, behind]));
         guest.still_serves();
         guest.frontend.add_mem_region(&behind).unwrap();
         guest.frontend.remove_mem_region(&behind).unwrap();
+        // (the same region may be given again, and is taken back as often)
+        guest.frontend.add_mem_region(&region).unwrap();
+        guest.frontend.remove_mem_region(&region).unwrap();
         guest.still_serves();
     });
 }

@@ -14,6 +14,7 @@ use std::thread;
 use std::time::Duration;
 
 use common::device::*;
+use common::machine::wait_until;
 use common::*;
 use covretin::vhost_user::gpu_message::*;
 use covretin::vhost_user::message::VhostUserU64;
@@ -207,6 +208,7 @@ fn replies_that_are_none() {
                 replies.push(message(code, REPLY, &[]));
             }
             let file = memory_file();
+            let without_channels = open_fds();
             for reply in replies {
                 let (channel, peer) = asking();
                 peer.say(&reply, &[]);
@@ -214,6 +216,7 @@ fn replies_that_are_none() {
                 assert_eq!("socket is broken: Protocol error (os error 71)", text(channel.cursor_pos(&POS)));
             }
             for count in [1, 3] {
+                wait_until("those before are closed", || without_channels == open_fds());
                 let (channel, peer) = asking();
                 peer.say(&message(code, REPLY, &bytes[..size]), &vec![&file; count]);
                 let before = open_fds();

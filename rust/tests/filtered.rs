@@ -48,7 +48,7 @@ fn poll_number() -> libc::c_long {
 #[ignore = "a part of a_filter_is_kept_to"]
 fn under_a_filter() {
     let (mine, other) = UnixStream::pair().unwrap();
-    filter_calls(&[libc::SYS_setsockopt, libc::SYS_getppid, poll_number(), libc::SYS_ppoll]);
+    filter_calls(&[libc::SYS_setsockopt, libc::SYS_getppid, libc::SYS_ioctl, poll_number(), libc::SYS_ppoll]);
     let backend = thread::spawn(move || {
         let mut handler = BackendReqHandler::from_stream(other, Arc::new(Mutex::new(Noting::default())));
         while !matches!(handler.handle_request(), Err(Error::Disconnected | Error::SocketBroken(_) | Error::InvalidMessage)) {}
@@ -62,10 +62,10 @@ fn under_a_filter() {
     frontend.set_hdr_flags(VhostUserHeaderFlag::NEED_REPLY);
     let file = memory_file();
     frontend.set_vring_call(0, &file).unwrap();
-    // (a descriptor that a request may not have is closed)
-    send(&file_of(&frontend), &message(3, ASKS, &[]), &[file.as_raw_fd()]);
     let (channel, _end) = UnixStream::pair().unwrap();
-    let _ = frontend.set_backend_request_fd(&channel);
+    frontend.set_backend_request_fd(&channel).unwrap();
+    // (a descriptor that a request may not have is closed, and ends the connection)
+    send(&file_of(&frontend), &message(3, ASKS, &[]), &[file.as_raw_fd()]);
     drop(frontend);
     backend.join().unwrap();
 }

@@ -1,6 +1,6 @@
 // SPDX-License-Identifier: Apache-2.0
 //! The examples over the kit for devices, each a process of its own, and a guest that asks it; and sockets that linger for the one without
-//! the kit. Where they are compiled, ./test-rust knows.
+//! the kit. Where they are compiled, ./test rust knows.
 mod common;
 
 use std::env;

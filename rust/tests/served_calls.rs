@@ -8,6 +8,7 @@ use std::os::unix::io::AsRawFd;
 use std::os::unix::net::UnixStream;
 
 use common::device::*;
+use common::requests::*;
 use common::*;
 use covretin::vhost_user::message::*;
 use covretin::vhost_user::{Frontend, VhostUserFrontend};
@@ -90,24 +91,13 @@ fn object() -> VhostUserSharedMsg {
     VhostUserSharedMsg { uuid: uuid::Uuid::from_bytes([0x10; 16]) }
 }
 
+/// Each request of a plain form.
 #[test]
-fn set_owner() {
-    acknowledged("set_owner", 0, |it, _| it.set_owner());
-}
-
-#[test]
-fn reset_owner() {
-    acknowledged("reset_owner", 0, |it, _| it.reset_owner());
-}
-
-#[test]
-fn reset_device() {
-    acknowledged("reset_device", 0, |it, _| it.reset_device());
-}
-
-#[test]
-fn set_features() {
-    acknowledged("set_features 0x40000003", 0, |it, _| it.set_features(0x4000_0003));
+fn plain_forms() {
+    for (it, _, noted) in plain_requests() {
+        println!("{}", it.name);
+        acknowledged(&noted, usize::from(it.sends), |frontend, files| (it.call)(frontend, files[0].as_raw_fd()));
+    }
 }
 
 #[test]
@@ -140,11 +130,6 @@ fn set_mem_table_of_32() {
 }
 
 #[test]
-fn set_vring_num() {
-    acknowledged("set_vring_num 3 256", 0, |it, _| it.set_vring_num(3, 256));
-}
-
-#[test]
 fn set_vring_addr() {
     let ring = VringConfigData {
         queue_max_size: 9,
@@ -166,29 +151,9 @@ fn set_vring_base() {
 }
 
 #[test]
-fn set_vring_kick() {
-    acknowledged("set_vring_kick 3", 1, |it, files| it.set_vring_kick(3, &files[0]));
-}
-
-#[test]
-fn set_vring_call() {
-    acknowledged("set_vring_call 0", 1, |it, files| it.set_vring_call(0, &files[0]));
-}
-
-#[test]
-fn set_vring_err() {
-    acknowledged("set_vring_err 1", 1, |it, files| it.set_vring_err(1, &files[0]));
-}
-
-#[test]
 fn set_vring_enable() {
     acknowledged("set_vring_enable 1 true", 0, |it, _| it.set_vring_enable(1, true));
     acknowledged("set_vring_enable 1 false", 0, |it, _| it.set_vring_enable(1, false));
-}
-
-#[test]
-fn set_mtu() {
-    acknowledged("set_mtu 1500", 0, |it, _| it.set_mtu(1500));
 }
 
 #[test]

@@ -13,8 +13,8 @@ use common::*;
 use covretin::vhost_user::message::FrontendReq;
 use covretin::vhost_user::{Error, Profile, Result};
 
-const NOT_NOW: &str = "InvalidOperation(\"not in this state of postcopy\")";
-const NOT_SERVED: &str = "InvalidOperation(\"request not served\")";
+const NOT_NOW: &str = "InvalidOperation(\"postcopy is in another state\")";
+const NOT_SERVED: &str = "InvalidOperation(\"nobody serves it\")";
 
 /// The requests of the specification that this library does not serve; and those of them that have a reply of their own.
 const UNSERVED: [u32; 9] = [7, 19, 22, 23, 26, 27, 35, 39, 40];

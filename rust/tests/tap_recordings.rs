@@ -565,6 +565,7 @@ fn who_ended_a_session() {
     for (before, cause, by) in [
         (end(2, "F>B", "eof"), "eof", "the frontend"),
         (end(2, "F>B", reset), "eof", "the frontend"),
+        (end(2, "F>B", "eof"), stopped, "the frontend"),
         (String::new(), "it is no longer received: Broken pipe (os error 32)", "the frontend"),
         (end(2, "F>B", stopped), stopped, "the tap"),
         (String::new(), stopped, "the tap"),

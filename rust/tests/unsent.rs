@@ -9,11 +9,12 @@ use std::os::unix::net::UnixStream;
 use std::thread;
 
 use common::device::*;
+use common::requests::*;
 use common::*;
 use covretin::vhost_user::gpu_message::{VhostUserGpuCursorPos, VhostUserGpuCursorUpdate, VhostUserGpuUpdate};
 use covretin::vhost_user::message::*;
 use covretin::vhost_user::{Backend, Error, Frontend, GpuBackend, VhostUserFrontend, VhostUserFrontendReqHandler};
-use covretin::{Result, VhostBackend, VhostUserDirtyLogRegion, VhostUserMemoryRegionInfo, VringConfigData};
+use covretin::{Result, VhostBackend, VhostUserMemoryRegionInfo};
 
 /// A number that no descriptor has.
 const NOT_OPEN: i32 = 0xf_ffff;
@@ -81,66 +82,18 @@ fn fails_by<T>(wanted: (&str, i32), result: Result<T>) {
     }
 }
 
-type Call = fn(&mut Frontend) -> Result<()>;
+type Call = fn(&mut Frontend, i32) -> Result<()>;
 
 fn region(fd: i32) -> VhostUserMemoryRegionInfo {
     VhostUserMemoryRegionInfo { memory_size: 0x1000, mmap_handle: fd, ..Default::default() }
 }
 
-struct NotOpen;
-
-impl AsRawFd for NotOpen {
-    fn as_raw_fd(&self) -> i32 {
-        NOT_OPEN
-    }
-}
-
-/// The calls that send a descriptor, with one that is not open.
-fn calls_with_a_descriptor() -> Vec<Call> {
-    vec![
-        |it| it.set_log_fd(NOT_OPEN),
-        |it| it.set_vring_call(0, &NotOpen),
-        |it| it.set_vring_kick(0, &NotOpen),
-        |it| it.set_vring_err(0, &NotOpen),
-        |it| it.set_backend_request_fd(&NotOpen),
-        |it| it.set_mem_table(&[region(NOT_OPEN)]).map(drop),
-        |it| it.add_mem_region(&region(NOT_OPEN)).map(drop),
-        |it| it.set_inflight_fd(&VhostUserInflight::new(0x1000, 0, 1, 1), NOT_OPEN),
-        |it| it.set_log_base(0, Some(VhostUserDirtyLogRegion { mmap_size: 1, mmap_offset: 0, mmap_handle: NOT_OPEN })),
-    ]
-}
-
-/// The calls that send none.
-fn other_calls() -> Vec<Call> {
-    vec![
-        |it| it.get_features().map(drop),
-        |it| it.set_features(0),
-        |it| it.set_owner(),
-        |it| it.reset_owner(),
-        |it| it.get_protocol_features().map(drop),
-        |it| it.set_protocol_features(VhostUserProtocolFeatures::empty()),
-        |it| it.get_queue_num().map(drop),
-        |it| it.reset_device(),
-        |it| it.get_max_mem_slots().map(drop),
-        |it| it.remove_mem_region(&region(NOT_OPEN)),
-        |it| it.set_log_base(0, None),
-        |it| it.set_vring_num(0, 1),
-        |it| it.set_vring_addr(0, &VringConfigData::default()),
-        |it| it.set_vring_base(0, 1),
-        |it| it.get_vring_base(0).map(drop),
-        |it| it.set_vring_enable(0, true),
-        |it| it.get_config(0, 4, VhostUserConfigFlags::empty(), &[0; 4]).map(drop),
-        |it| it.set_config(0, VhostUserConfigFlags::empty(), &[0; 4]),
-        |it| it.get_shared_object(&VhostUserSharedMsg { uuid: uuid::Uuid::from_bytes([1; 16]) }).map(drop),
-        |it| it.get_inflight_fd(&VhostUserInflight::new(0, 0, 1, 1)).map(drop),
-        |it| it.get_shmem_config().map(drop),
-        |it| it.check_device_state(),
-        |it| it.postcopy_advise().map(drop),
-        |it| it.postcopy_listen(),
-        |it| it.postcopy_end(),
-        |it| it.postcopy_ack_mem_regions(FrontendReq::SET_MEM_TABLE),
-        |it| it.set_mtu(1500),
-    ]
+/// All calls: each request, and what is no request of its own.
+fn calls() -> Vec<Call> {
+    let mut calls: Vec<Call> = requests().iter().map(|it| it.call).collect();
+    calls.push(|it, _| it.set_log_base(0, None));
+    calls.push(|it, _| it.postcopy_ack_mem_regions(FrontendReq::SET_MEM_TABLE));
+    calls
 }
 
 /// That a frontend is as `negotiated` left it: each request that depends on what was agreed on goes out, and awaits what it did.
@@ -173,14 +126,14 @@ fn agreed(features: u64) -> (Frontend, Peer) {
 #[test]
 fn a_descriptor_that_is_not_open_breaks_nothing() {
     counted(|| {
-        for call in calls_with_a_descriptor() {
+        for call in requests().iter().filter(|it| it.sends).map(|it| it.call) {
             for wants_reply in [false, true] {
                 let (mut frontend, peer) = agreed(ALL);
                 if wants_reply {
                     need_reply(&frontend);
                 }
-                fails_by(("SocketError", libc::EBADF), call(&mut frontend));
-                fails_by(("SocketError", libc::EBADF), call(&mut frontend));
+                fails_by(("SocketError", libc::EBADF), call(&mut frontend, NOT_OPEN));
+                fails_by(("SocketError", libc::EBADF), call(&mut frontend, NOT_OPEN));
                 frontend.set_hdr_flags(VhostUserHeaderFlag::empty());
                 is_as_negotiated(&peer, &mut frontend);
                 drop(frontend);
@@ -194,7 +147,7 @@ fn a_descriptor_that_is_not_open_breaks_nothing() {
 #[test]
 fn a_request_that_was_not_sent_breaks_nothing() {
     counted(|| {
-        for call in calls_with_a_descriptor().into_iter().chain(other_calls()) {
+        for call in calls() {
             for (errno, wanted) in WHOLE {
                 for wants_reply in [false, true] {
                     let (mut frontend, peer) = agreed(ALL);
@@ -202,7 +155,7 @@ fn a_request_that_was_not_sent_breaks_nothing() {
                         need_reply(&frontend);
                     }
                     fails_behind(0, errno);
-                    fails_by((wanted, errno), call(&mut frontend));
+                    fails_by((wanted, errno), call(&mut frontend, NOT_OPEN));
                     frontend.set_hdr_flags(VhostUserHeaderFlag::empty());
                     is_as_negotiated(&peer, &mut frontend);
                     drop(frontend);
@@ -308,7 +261,7 @@ fn a_channel_goes_on() {
                 channel.set_reply_ack_flag(acknowledges);
                 fails_behind(0, errno);
                 assert_eq!((wanted, errno), cause(channel.handle_config_change()));
-                assert_eq!(("SocketError", libc::EBADF), cause(channel.shmem_map(&VhostUserMMap::default(), &NotOpen)));
+                assert_eq!(("SocketError", libc::EBADF), cause(channel.shmem_map(&VhostUserMMap::default(), &Number(NOT_OPEN))));
             }
             peer.say_number(2, 0);
             channel.handle_config_change().unwrap();

@@ -6,6 +6,7 @@ ghost use Rattle.vhost_protocol.specs.DeviceCall.{GetConfig, SetConfig, SetMemTa
 ghost use Rattle.vhost_protocol.specs.Error.{seen_result};
 ghost use Rattle.vhost_connection.specs.State.{state};
 ghost use Rattle.vhost_device.specs.Answers.{seen_bits};
+ghost use Rattle.vhost_device.specs.Reached.{by_trait};
 ghost use Rattle.vhost_backend_req_handler_core.specs.Beginning.{config_in, handles_in, regions_in};
 ghost use Rattle.vhost_backend_req_handler_core.specs.Concluding.{bases_in, bytes_in, done_in};
 ghost use Rattle.vhost_backend_req_handler_core.specs.declared.call.DeviceCall.TheVariants as call_;
@@ -23,18 +24,21 @@ use vhost_connection::Endpoint;
 use vhost_device::VhostUserBackendReqHandlerMut;
 use vhost_link::Link;
 use vhost_message::{
-    MAX_MEM_REGIONS, Result, VhostTransferStateDirection, VhostTransferStatePhase,
+    Error, MAX_MEM_REGIONS, Result, VhostTransferStateDirection, VhostTransferStatePhase,
     VhostUserConfigFlags, VhostUserInflight, VhostUserLog, VhostUserMemoryRegion,
     VhostUserProtocolFeatures, VhostUserSingleMemoryRegion, VhostUserVringAddr,
     VhostUserVringAddrFlags,
 };
+
+/// The answer to a request that devices have no call for.
+const NOT_SERVED: Error = Error::InvalidOperation("request not served");
 
 fn set_log_base<L: Link, D: VhostUserBackendReqHandlerMut<Link = L>>(
     device: &mut D,
     log: VhostUserLog,
     handles: Option<Vec<L::Handle>>,
 ) -> Option<DeviceAnswer<L::Handle>>
-    ensures { (budget : ℕ) (place : VhostUserShMemConfig) → CalledWith D.gives (λ h o. OpensAsBackend L.opens L.Handle.kinds budget h o) (λ h o. OpensAsGpu L.opens L.Handle.kinds budget h o) device.old place (call_.SetLogBase log) (handles_in handles) result device.new }
+    ensures { (budget : ℕ) (place : VhostUserShMemConfig) → CalledWith (by_trait D.gives) (λ h o. OpensAsBackend L.opens L.Handle.kinds budget h o) (λ h o. OpensAsGpu L.opens L.Handle.kinds budget h o) device.old place (call_.SetLogBase log) (handles_in handles) result device.new }
 {
     match take_single_file(handles) {
         Some(file) => Some(DeviceAnswer::Done(device.set_log_base(&log, file))),
@@ -47,7 +51,7 @@ fn set_inflight_fd<L: Link, D: VhostUserBackendReqHandlerMut<Link = L>>(
     area: VhostUserInflight,
     handles: Option<Vec<L::Handle>>,
 ) -> Option<DeviceAnswer<L::Handle>>
-    ensures { (budget : ℕ) (place : VhostUserShMemConfig) → CalledWith D.gives (λ h o. OpensAsBackend L.opens L.Handle.kinds budget h o) (λ h o. OpensAsGpu L.opens L.Handle.kinds budget h o) device.old place (call_.SetInflightFd area) (handles_in handles) result device.new }
+    ensures { (budget : ℕ) (place : VhostUserShMemConfig) → CalledWith (by_trait D.gives) (λ h o. OpensAsBackend L.opens L.Handle.kinds budget h o) (λ h o. OpensAsGpu L.opens L.Handle.kinds budget h o) device.old place (call_.SetInflightFd area) (handles_in handles) result device.new }
 {
     match take_single_file(handles) {
         Some(file) => Some(DeviceAnswer::Done(device.set_inflight_fd(&area, file))),
@@ -61,7 +65,7 @@ fn add_mem_region<L: Link, D: VhostUserBackendReqHandlerMut<Link = L>>(
     listens: bool,
     handles: Option<Vec<L::Handle>>,
 ) -> Option<DeviceAnswer<L::Handle>>
-    ensures { (budget : ℕ) (place : VhostUserShMemConfig) → CalledWith D.gives (λ h o. OpensAsBackend L.opens L.Handle.kinds budget h o) (λ h o. OpensAsGpu L.opens L.Handle.kinds budget h o) device.old place (call_.AddMemRegion region listens) (handles_in handles) result device.new }
+    ensures { (budget : ℕ) (place : VhostUserShMemConfig) → CalledWith (by_trait D.gives) (λ h o. OpensAsBackend L.opens L.Handle.kinds budget h o) (λ h o. OpensAsGpu L.opens L.Handle.kinds budget h o) device.old place (call_.AddMemRegion region listens) (handles_in handles) result device.new }
 {
     match take_single_file(handles) {
         Some(file) => Some(DeviceAnswer::Base(device.add_mem_region(&region, file, Some(listens)))),
@@ -75,7 +79,7 @@ fn set_device_state_fd<L: Link, D: VhostUserBackendReqHandlerMut<Link = L>>(
     phase: VhostTransferStatePhase,
     handles: Option<Vec<L::Handle>>,
 ) -> Option<DeviceAnswer<L::Handle>>
-    ensures { (budget : ℕ) (place : VhostUserShMemConfig) → CalledWith D.gives (λ h o. OpensAsBackend L.opens L.Handle.kinds budget h o) (λ h o. OpensAsGpu L.opens L.Handle.kinds budget h o) device.old place (call_.SetDeviceStateFd direction phase) (handles_in handles) result device.new }
+    ensures { (budget : ℕ) (place : VhostUserShMemConfig) → CalledWith (by_trait D.gives) (λ h o. OpensAsBackend L.opens L.Handle.kinds budget h o) (λ h o. OpensAsGpu L.opens L.Handle.kinds budget h o) device.old place (call_.SetDeviceStateFd direction phase) (handles_in handles) result device.new }
 {
     match take_single_file(handles) {
         Some(file) => Some(DeviceAnswer::StateHandle(device.set_device_state_fd(
@@ -91,7 +95,7 @@ fn set_vring_kick<L: Link, D: VhostUserBackendReqHandlerMut<Link = L>>(
     wants: bool,
     handles: Option<Vec<L::Handle>>,
 ) -> Option<DeviceAnswer<L::Handle>>
-    ensures { (budget : ℕ) (place : VhostUserShMemConfig) → CalledWith D.gives (λ h o. OpensAsBackend L.opens L.Handle.kinds budget h o) (λ h o. OpensAsGpu L.opens L.Handle.kinds budget h o) device.old place (call_.SetVringKick index wants) (handles_in handles) result device.new }
+    ensures { (budget : ℕ) (place : VhostUserShMemConfig) → CalledWith (by_trait D.gives) (λ h o. OpensAsBackend L.opens L.Handle.kinds budget h o) (λ h o. OpensAsGpu L.opens L.Handle.kinds budget h o) device.old place (call_.SetVringKick index wants) (handles_in handles) result device.new }
 {
     if !wants {
         return Some(DeviceAnswer::Done(device.set_vring_kick(index, None)));
@@ -108,7 +112,7 @@ fn set_vring_call<L: Link, D: VhostUserBackendReqHandlerMut<Link = L>>(
     wants: bool,
     handles: Option<Vec<L::Handle>>,
 ) -> Option<DeviceAnswer<L::Handle>>
-    ensures { (budget : ℕ) (place : VhostUserShMemConfig) → CalledWith D.gives (λ h o. OpensAsBackend L.opens L.Handle.kinds budget h o) (λ h o. OpensAsGpu L.opens L.Handle.kinds budget h o) device.old place (call_.SetVringCall index wants) (handles_in handles) result device.new }
+    ensures { (budget : ℕ) (place : VhostUserShMemConfig) → CalledWith (by_trait D.gives) (λ h o. OpensAsBackend L.opens L.Handle.kinds budget h o) (λ h o. OpensAsGpu L.opens L.Handle.kinds budget h o) device.old place (call_.SetVringCall index wants) (handles_in handles) result device.new }
 {
     if !wants {
         return Some(DeviceAnswer::Done(device.set_vring_call(index, None)));
@@ -125,7 +129,7 @@ fn set_vring_err<L: Link, D: VhostUserBackendReqHandlerMut<Link = L>>(
     wants: bool,
     handles: Option<Vec<L::Handle>>,
 ) -> Option<DeviceAnswer<L::Handle>>
-    ensures { (budget : ℕ) (place : VhostUserShMemConfig) → CalledWith D.gives (λ h o. OpensAsBackend L.opens L.Handle.kinds budget h o) (λ h o. OpensAsGpu L.opens L.Handle.kinds budget h o) device.old place (call_.SetVringErr index wants) (handles_in handles) result device.new }
+    ensures { (budget : ℕ) (place : VhostUserShMemConfig) → CalledWith (by_trait D.gives) (λ h o. OpensAsBackend L.opens L.Handle.kinds budget h o) (λ h o. OpensAsGpu L.opens L.Handle.kinds budget h o) device.old place (call_.SetVringErr index wants) (handles_in handles) result device.new }
 {
     if !wants {
         return Some(DeviceAnswer::Done(device.set_vring_err(index, None)));
@@ -217,7 +221,7 @@ fn set_backend_req_fd<L: Link, D: VhostUserBackendReqHandlerMut<Link = L>>(
     device: &mut D,
     handles: Option<Vec<L::Handle>>,
 ) -> Option<DeviceAnswer<L::Handle>>
-    ensures called { (place : VhostUserShMemConfig) → CalledWith D.gives (λ h o. OpensAsBackend L.opens L.Handle.kinds (state endpoint.old).budget h o) (λ h o. OpensAsGpu L.opens L.Handle.kinds (state endpoint.old).budget h o) device.old place call_.SetBackendReqFd (handles_in handles) result device.new }
+    ensures called { (place : VhostUserShMemConfig) → CalledWith (by_trait D.gives) (λ h o. OpensAsBackend L.opens L.Handle.kinds (state endpoint.old).budget h o) (λ h o. OpensAsGpu L.opens L.Handle.kinds (state endpoint.old).budget h o) device.old place call_.SetBackendReqFd (handles_in handles) result device.new }
     ensures same { endpoint.new ≡ endpoint.old }
 {
     match take_single_file(handles) {
@@ -232,7 +236,7 @@ fn set_gpu_socket<L: Link, D: VhostUserBackendReqHandlerMut<Link = L>>(
     device: &mut D,
     handles: Option<Vec<L::Handle>>,
 ) -> Option<DeviceAnswer<L::Handle>>
-    ensures called { (place : VhostUserShMemConfig) → CalledWith D.gives (λ h o. OpensAsBackend L.opens L.Handle.kinds (state endpoint.old).budget h o) (λ h o. OpensAsGpu L.opens L.Handle.kinds (state endpoint.old).budget h o) device.old place call_.SetGpuSocket (handles_in handles) result device.new }
+    ensures called { (place : VhostUserShMemConfig) → CalledWith (by_trait D.gives) (λ h o. OpensAsBackend L.opens L.Handle.kinds (state endpoint.old).budget h o) (λ h o. OpensAsGpu L.opens L.Handle.kinds (state endpoint.old).budget h o) device.old place call_.SetGpuSocket (handles_in handles) result device.new }
     ensures same { endpoint.new ≡ endpoint.old }
 {
     match take_single_file(handles) {
@@ -251,7 +255,7 @@ impl Service {
         call: &DeviceCall<'_>,
         handles: &mut Option<Vec<L::Handle>>,
     ) -> Option<DeviceAnswer<L::Handle>>
-        ensures called { CalledWith D.gives (λ h o. OpensAsBackend L.opens L.Handle.kinds (state endpoint.old).budget h o) (λ h o. OpensAsGpu L.opens L.Handle.kinds (state endpoint.old).budget h o) device.old self.new.shmem call.now (handles_in handles.old) result device.new }
+        ensures called { CalledWith (by_trait D.gives) (λ h o. OpensAsBackend L.opens L.Handle.kinds (state endpoint.old).budget h o) (λ h o. OpensAsGpu L.opens L.Handle.kinds (state endpoint.old).budget h o) device.old self.new.shmem call.now (handles_in handles.old) result device.new }
         ensures endpoint { state endpoint.new ≡ state endpoint.old }
         ensures session { self.new.session ≡ self.old.session }
         ensures regions { self.new.regions ≡ self.old.regions }
@@ -353,10 +357,7 @@ impl Service {
             DeviceCall::PostcopyAckMemRegions => Some(DeviceAnswer::Done(
                 device.postcopy_ack_mem_regions(),
             )),
-            DeviceCall::Other(request, body) => {
-                let files = list_of(self.alloc, handles.take());
-                Some(DeviceAnswer::Done(device.other(*request, body, files)))
-            }
+            DeviceCall::Other(_, _) => Some(DeviceAnswer::Done(Err(NOT_SERVED))),
         }
     }
 
@@ -365,7 +366,7 @@ impl Service {
         &mut self,
         device: &mut D,
     ) -> Option<DeviceAnswer<L::Handle>>
-        ensures called { (budget : ℕ) (hs : List L.Handle) → CalledWith D.gives (λ h o. OpensAsBackend L.opens L.Handle.kinds budget h o) (λ h o. OpensAsGpu L.opens L.Handle.kinds budget h o) device.old self.new.shmem call_.GetShmemConfig hs result device.new }
+        ensures called { (budget : ℕ) (hs : List L.Handle) → CalledWith (by_trait D.gives) (λ h o. OpensAsBackend L.opens L.Handle.kinds budget h o) (λ h o. OpensAsGpu L.opens L.Handle.kinds budget h o) device.old self.new.shmem call_.GetShmemConfig hs result device.new }
         ensures session { self.new.session ≡ self.old.session }
         ensures regions { self.new.regions ≡ self.old.regions }
     {

@@ -7,6 +7,7 @@ ghost use Rattle.vhost_backend_req_handler_core.specs.Concluding.{concluded};
 ghost use Rattle.vhost_backend_req_handler_core.specs.Settling.{settled_by};
 ghost use Rattle.vhost_backend_req_handler.specs.Halves.{HalvesRefuse, HalvesServe};
 ghost use Rattle.vhost_backend_req_handler.specs.Opening.{OpensAsBackend, OpensAsGpu};
+ghost use Rattle.vhost_device.specs.Reached.{by_trait};
 
 use crate::session_core::SessionCore;
 use crate::sizes::sizes_law;
@@ -146,7 +147,7 @@ impl<L: Link> SessionCore<L> {
         device: &mut D,
     ) -> Option<DeviceAnswer<L::Handle>>
         ensures called { (p : Pending L.Handle) (m : Message HeardReq L.Handle) (rs : List VhostUserMemoryRegion) → self.old.pending ≡ Some p → Reads self.old.body.value p.request m → HandsOver p.handles m.handles
-            → IfSome result (λ a. Called D.gives (λ h o. OpensAsBackend L.opens L.Handle.kinds (endpoint_of self.old).budget h o) (λ h o. OpensAsGpu L.opens L.Handle.kinds (endpoint_of self.old).budget h o) device.old (beside rs self.new.service.shmem) (row_of m.request (session_in self.old) m) (Some a) device.new) }
+            → IfSome result (λ a. Called (by_trait D.gives) (λ h o. OpensAsBackend L.opens L.Handle.kinds (endpoint_of self.old).budget h o) (λ h o. OpensAsGpu L.opens L.Handle.kinds (endpoint_of self.old).budget h o) device.old (beside rs self.new.service.shmem) (row_of m.request (session_in self.old) m) (Some a) device.new) }
         ensures some { (p : Pending L.Handle) (m : Message HeardReq L.Handle) → self.old.pending ≡ Some p → Reads self.old.body.value p.request m → HandsOver p.handles m.handles
             → Makes (row_of {B = Backend L L.Handle} {G = GpuBackend L L.Handle} m.request (session_in self.old) m) → is_some result ≡ true }
         ensures endpoint { endpoint_of self.new ≡ endpoint_of self.old }
@@ -171,7 +172,7 @@ impl<L: Link> SessionCore<L> {
         pending: &mut Pending<L::Handle>,
     ) -> Option<DeviceAnswer<L::Handle>>
         ensures called { (m : Message HeardReq L.Handle) (rs : List VhostUserMemoryRegion) → Reads self.old.body.value pending.old.request m → HandsOver pending.old.handles m.handles
-            → IfSome result (λ a. Called D.gives (λ h o. OpensAsBackend L.opens L.Handle.kinds (endpoint_of self.old).budget h o) (λ h o. OpensAsGpu L.opens L.Handle.kinds (endpoint_of self.old).budget h o) device.old (beside rs self.new.service.shmem) (row_of m.request (session_in self.old) m) (Some a) device.new) }
+            → IfSome result (λ a. Called (by_trait D.gives) (λ h o. OpensAsBackend L.opens L.Handle.kinds (endpoint_of self.old).budget h o) (λ h o. OpensAsGpu L.opens L.Handle.kinds (endpoint_of self.old).budget h o) device.old (beside rs self.new.service.shmem) (row_of m.request (session_in self.old) m) (Some a) device.new) }
         ensures some { (m : Message HeardReq L.Handle) → Reads self.old.body.value pending.old.request m → HandsOver pending.old.handles m.handles
             → Makes (row_of {B = Backend L L.Handle} {G = GpuBackend L L.Handle} m.request (session_in self.old) m) → is_some result ≡ true }
         ensures endpoint { endpoint_of self.new ≡ endpoint_of self.old }
@@ -271,6 +272,6 @@ impl<L: Link> SessionCore<L> {
 /// The two halves, with a device's answer between them, are what `handle_request` does with that device; and so is a request
 /// that the first one refuses.
 pub fn halves_law<L: Link, D: VhostUserBackendReqHandlerMut<Link = L>>()
-    ensures served { (budget : ℕ) → HalvesServe L.event D.gives (λ h o. OpensAsBackend L.opens L.Handle.kinds budget h o) (λ h o. OpensAsGpu L.opens L.Handle.kinds budget h o) }
-    ensures refused { (budget : ℕ) → HalvesRefuse L.event D.gives (λ h o. OpensAsBackend L.opens L.Handle.kinds budget h o) (λ h o. OpensAsGpu L.opens L.Handle.kinds budget h o) }
+    ensures served { (budget : ℕ) → HalvesServe L.event (by_trait D.gives) (λ h o. OpensAsBackend L.opens L.Handle.kinds budget h o) (λ h o. OpensAsGpu L.opens L.Handle.kinds budget h o) }
+    ensures refused { (budget : ℕ) → HalvesRefuse L.event (by_trait D.gives) (λ h o. OpensAsBackend L.opens L.Handle.kinds budget h o) (λ h o. OpensAsGpu L.opens L.Handle.kinds budget h o) }
 {}

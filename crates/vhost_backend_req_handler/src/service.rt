@@ -17,6 +17,7 @@ ghost use Rattle.vhost_backend_req_handler_core.specs.Settling.{Settles, settled
 ghost use Rattle.vhost_backend_req_handler.specs.Halves.{Denies, Prepares};
 ghost use Rattle.vhost_backend_req_handler.specs.Opening.{OpensAsBackend, OpensAsGpu};
 ghost use Rattle.vhost_backend_req_handler.specs.Serving.{Answers, Finishes, refused_silently};
+ghost use Rattle.vhost_device.specs.Reached.{by_trait};
 
 use crate::sizes::sizes_law;
 use std::alloc::Global;
@@ -57,7 +58,7 @@ impl Service {
         handles: &mut Option<Vec<L::Handle>>,
     ) -> Result<()>
         ensures { IsReady (state endpoint.old)
-            → Answers L.event D.gives (λ h o. OpensAsBackend L.opens L.Handle.kinds (state endpoint.old).budget h o) (λ h o. OpensAsGpu L.opens L.Handle.kinds (state endpoint.old).budget h o) (message_in message.now (handles_in handles.old)) (row_of message.now.code (session_of self.old.session) (message_in message.now (handles_in handles.old))) (state endpoint.old) (session_of self.old.session) device.old result (state endpoint.new) (session_of self.new.session) device.new }
+            → Answers L.event (by_trait D.gives) (λ h o. OpensAsBackend L.opens L.Handle.kinds (state endpoint.old).budget h o) (λ h o. OpensAsGpu L.opens L.Handle.kinds (state endpoint.old).budget h o) (message_in message.now (handles_in handles.old)) (row_of message.now.code (session_of self.old.session) (message_in message.now (handles_in handles.old))) (state endpoint.old) (session_of self.old.session) device.old result (state endpoint.new) (session_of self.new.session) device.new }
     {
         let unanswered = Conclusions::<L::Handle>::unanswered(&self.session, message);
         match Rows::<L::Handle, Backend<L>, GpuBackend<L>>::begin(&self.session, message, handles) {
@@ -82,7 +83,7 @@ impl Service {
         handles: &mut Option<Vec<L::Handle>>,
     ) -> Result<()>
         ensures { IsReady (state endpoint.old) → Settles (session_of self.old.session) (message_in message.now (handles_in handles.old)) unanswered.now
-            → Answers L.event D.gives (λ h o. OpensAsBackend L.opens L.Handle.kinds (state endpoint.old).budget h o) (λ h o. OpensAsGpu L.opens L.Handle.kinds (state endpoint.old).budget h o) (message_in message.now (handles_in handles.old)) (step_of (session_of self.old.session) (message_in message.now (handles_in handles.old)) call.now) (state endpoint.old) (session_of self.old.session) device.old result (state endpoint.new) (session_of self.new.session) device.new }
+            → Answers L.event (by_trait D.gives) (λ h o. OpensAsBackend L.opens L.Handle.kinds (state endpoint.old).budget h o) (λ h o. OpensAsGpu L.opens L.Handle.kinds (state endpoint.old).budget h o) (message_in message.now (handles_in handles.old)) (step_of (session_of self.old.session) (message_in message.now (handles_in handles.old)) call.now) (state endpoint.old) (session_of self.old.session) device.old result (state endpoint.new) (session_of self.new.session) device.new }
     {
         self.keep_table(call);
         match self.call_device(endpoint, device, call, handles) {

@@ -4,6 +4,7 @@ ghost use Rattle.std.specs.Prelude.{◌≡◌, ◌+◌, ◌<◌, false, is_some,
 ghost use Rattle.vhost_message.specs.declared.cause.IoCause.TheVariants.{Raw};
 ghost use Rattle.vhost_message.specs.declared.error.Error.TheVariants.{SocketBroken, OutOfMemory};
 ghost use Rattle.vhost_protocol.specs.Session.{fresh as new_session};
+ghost use Rattle.vhost_device.specs.Reached.{by_trait};
 
 use crate::halves::Pending;
 use crate::service::{Header, Service};
@@ -142,7 +143,7 @@ impl<L: Link> SessionCore<L> {
         ensures failed { (n : ℤ) → (session_in self.old).failed ≡ Some n
             → (result ≡ Err (SocketBroken (Raw n))) × (endpoint_of self.new ≡ endpoint_of self.old) × (session_in self.new ≡ session_in self.old) × (device.new ≡ device.old) }
         ensures handled { (session_in self.old).failed ≡ None
-            → HandlesOne L.event D.gives (λ h o. OpensAsBackend L.opens L.Handle.kinds (endpoint_of self.old).budget h o) (λ h o. OpensAsGpu L.opens L.Handle.kinds (endpoint_of self.old).budget h o) (endpoint_of self.old) (session_in self.old) device.old result (endpoint_of self.new) (session_in self.new) device.new }
+            → HandlesOne L.event (by_trait D.gives) (λ h o. OpensAsBackend L.opens L.Handle.kinds (endpoint_of self.old).budget h o) (λ h o. OpensAsGpu L.opens L.Handle.kinds (endpoint_of self.old).budget h o) (endpoint_of self.old) (session_in self.old) device.old result (endpoint_of self.new) (session_in self.new) device.new }
         ensures idle { (session_in self.old).failed ≡ None → is_some self.new.pending ≡ false }
         ensures kept { (n : ℤ) → (session_in self.old).failed ≡ Some n → self.new.pending ≡ self.old.pending }
     {
@@ -165,7 +166,7 @@ impl<L: Link> SessionCore<L> {
         device: &mut D,
         out: &mut Vec<Result<()>>,
     ) -> Result<()>
-        ensures run { IfOk result (λ _. Runs L.event D.gives (λ h o. OpensAsBackend L.opens L.Handle.kinds (endpoint_of self.old).budget h o) (λ h o. OpensAsGpu L.opens L.Handle.kinds (endpoint_of self.old).budget h o) (endpoint_of self.old) (session_in self.old) device.old count out.old.items out.new.items (endpoint_of self.new) (session_in self.new) device.new) }
+        ensures run { IfOk result (λ _. Runs L.event (by_trait D.gives) (λ h o. OpensAsBackend L.opens L.Handle.kinds (endpoint_of self.old).budget h o) (λ h o. OpensAsGpu L.opens L.Handle.kinds (endpoint_of self.old).budget h o) (endpoint_of self.old) (session_in self.old) device.old count out.old.items out.new.items (endpoint_of self.new) (session_in self.new) device.new) }
         ensures memory { IfErr result (λ e. (e ≡ OutOfMemory) × (endpoint_of self.new ≡ endpoint_of self.old) × (session_in self.new ≡ session_in self.old) × (device.new ≡ device.old) × (out.new.items ≡ out.old.items)) }
         ensures room { IfErr result (λ _. vec_capacity out.old < vec_len out.old + count) }
         ensures idle { is_some self.old.pending ≡ false → is_some self.new.pending ≡ false }
@@ -196,7 +197,7 @@ impl<L: Link> SessionCore<L> {
         handles: &mut Option<Vec<L::Handle>>,
     ) -> Result<()>
         ensures pending { self.new.pending ≡ self.old.pending }
-        ensures meets { MeetsRowWith L.event L.opens L.Handle.kinds D.gives request.code self.old device.old request handles.old result self.new device.new }
+        ensures meets { MeetsRowWith L.event L.opens L.Handle.kinds (by_trait D.gives) request.code self.old device.old request handles.old result self.new device.new }
     {
         let message = Incoming::new(
             request.code,

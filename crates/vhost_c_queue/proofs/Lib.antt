@@ -1,2 +1,4 @@
+mod Given
 mod Gone
 mod Kept
+mod Running

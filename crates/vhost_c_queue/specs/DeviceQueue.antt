@@ -120,6 +120,14 @@ head_place Stopped = Err refusal.NotStarted
 head_place (Split q) = if q.next_avail == q.avail_idx then Err (refusal.Queue NothingAvailable) else Ok (at (q.rings.avail_ring + 4 + 2 * (q.next_avail % q.rings.size)) 2)
 head_place (Packed q) = Err refusal.OtherLayout
 
+-- the entries of it that are to be read next, one behind the other: so many at most
+abbrev pub heads_place : Ring → ℕ → Result HostRange Refusal
+heads_place Stopped most = Err refusal.NotStarted
+heads_place (Split q) most =
+    if q.next_avail == q.avail_idx then Err (refusal.Queue NothingAvailable)
+    else Ok (at (q.rings.avail_ring + 4 + 2 * (q.next_avail % q.rings.size)) (2 * split.entries_ahead q.rings.size (split.state q) most))
+heads_place (Packed q) most = Err refusal.OtherLayout
+
 -- the descriptor that is to be read next
 abbrev pub descriptor_place : Ring → Option HostRange
 descriptor_place Stopped = None

@@ -1,3 +1,5 @@
 pub mod DeviceQueue
 pub mod Number
+pub mod Taking
+pub mod Using
 pub mod Walking

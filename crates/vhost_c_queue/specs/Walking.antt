@@ -1,6 +1,7 @@
 -- A chain whose descriptors were read one behind the other, before the first was looked at.
 use Rattle.std.specs.Prelude.{◌≡◌, ℕ, ◌+◌, ◌<◌, ◌≤◌, ◌⊎◌, ◌++◌, false, List, [], length, take, slice_index_or, Option, Some, None, is_some, option_to_list, Result, Ok, Err, if◌then◌else◌}
 use Rattle.vhost_queue.specs.Chain.{Following, following, table_of}
+use Rattle.vhost_queue.specs.Queue.{Runs}
 use Rattle.vhost_queue.specs.Segment.{IsSafe}
 use Rattle.vhost_queue.specs.declared.descriptor.Descriptor.{Descriptor}
 use Rattle.vhost_queue.specs.declared.descriptor.Segment.{Segment}
@@ -44,6 +45,10 @@ pub data Walks (rs : List GuestRegion) (copies : List Descriptor) (old : Ring) :
   none : Walks rs copies old 0 [] old
   one : {at : ℕ} {xs : List Segment} {was now : Ring} → Walks rs copies old at xs was → (o : Option Segment) → at < length copies
       → ((d : Descriptor) → Steps rs (slice_index_or copies at d) (Ok o) was now) → Walks rs copies old (taken_at at now) (xs ++ option_to_list o) now
+
+-- the first of them are behind a split queue's chain, each as a whole
+abbrev pub RunsBy : List GuestRegion → List Descriptor → ℕ → List Segment → Ring → Ring → Type 0
+RunsBy rs copies n xs old new = ByLayout (λ q p. Runs rs copies q n xs p) (λ q p. (n ≡ 0) × (xs ≡ []) × (p ≡ q)) ((n ≡ 0) × (xs ≡ [])) old new
 
 -- the first of them are behind it, and the next is refused
 abbrev pub Stops : List GuestRegion → List Descriptor → Refusal → Ring → Ring → Type 0

@@ -12,7 +12,7 @@ use std::alloc::Global;
 use vhost_queue::{
     AddressSpace, Descriptor, DescriptorChain, Error, EventSuppression, GuestMemory, GuestRegion,
     HostRange, PackedConfig, PackedQueue, PackedRings, Position, Queue, QueueConfig, Rings,
-    Segment,
+    Segment, run_of,
 };
 
 // What a number counts for above 32 bits.
@@ -46,14 +46,16 @@ fn table_of(chain: &DescriptorChain) -> Table
 }
 
 impl DeviceQueue {
-    ghost use Rattle.std.specs.Prelude.{ℕ, ◌<◌, length, is_some, remove, slice_index_or, All, true, false};
+    ghost use Rattle.std.specs.Prelude.{ℕ, ◌<◌, ◌≤◌, length, is_some, take, remove, slice_index_or, All, true, false};
     ghost use Rattle.vhost_queue.specs.Chain.{GoesOn};
-    ghost use Rattle.vhost_c_queue.specs.Walking.{Steps, Stops, WalksTo, chain_of};
+    ghost use Rattle.vhost_c_queue.specs.Taking.{Begins, NotTaken, TakesTo};
+    ghost use Rattle.vhost_c_queue.specs.Using.{UsesAll};
+    ghost use Rattle.vhost_c_queue.specs.Walking.{RunsBy, Steps, Stops, WalksTo, chain_of};
     ghost use Rattle.vhost_queue.specs.Memory.{is_at, translated, AreRegions, Refuses, RefusesAll};
     ghost use Rattle.vhost_queue.specs.declared.error.Error.TheVariants.{NoSuchRegion};
     ghost use Rattle.vhost_queue.specs.Queue.{adopted, broken, given_back, popped, refused_pop, resubmitted};
     ghost use Rattle.vhost_queue.specs.declared.memory.GuestRegion.{GuestRegion};
-    ghost use Rattle.vhost_c_queue.specs.DeviceQueue.{Alters, Answers, ByLayout, HearsPacked, HearsSplit, Takes, TakesAgain, Because, IsPacked, IsSplit, MovesPacked, MovesSplit, RefusesPacked, RefusesSplit, StartsPacked, StartsSplit, StaysPacked, StaysSplit, TellsPacked, TellsSplit, UsesPacked, UsesSplit, available_place, base, descriptor_place, event_write, head_place, needs_reset, notification_place, regions};
+    ghost use Rattle.vhost_c_queue.specs.DeviceQueue.{Alters, Answers, ByLayout, HearsPacked, HearsSplit, Takes, TakesAgain, Because, IsPacked, IsSplit, MovesPacked, MovesSplit, RefusesPacked, RefusesSplit, StartsPacked, StartsSplit, StaysPacked, StaysSplit, TellsPacked, TellsSplit, UsesPacked, UsesSplit, available_place, base, descriptor_place, event_write, head_place, heads_place, needs_reset, notification_place, regions};
     ghost use Rattle.vhost_c_queue.specs.declared.device_queue.Ring.TheVariants.{Stopped};
     ghost use Rattle.vhost_c_queue.specs.declared.refusal.Refusal.TheVariants.{NotStarted, OtherLayout};
 
@@ -100,8 +102,7 @@ impl DeviceQueue {
         ensures len { length segments.new ≡ length segments.old }
         ensures memory { regions self.new ≡ regions self.old }
     {
-        let mut taken = 0usize;
-        let mut count = 0usize;
+        let (mut taken, mut count) = self.run(copies, segments);
         while taken < copies.len() && count < segments.len() {
             let segment = self.step(copies[taken])?;
             count = put(segments, count, segment);
@@ -114,6 +115,56 @@ impl DeviceQueue {
             count,
             table: self.table(),
         })
+    }
+
+    /// The next entry of a split queue's available ring was read as this, or the flags of a packed queue's next place; and the first descriptors
+    /// of the chain that begins there were read as these: how far it was followed by them, as `walk` tells it. A refusal is one of `pop`, or of
+    /// `available`, where no chain is available too; or one of `walk`, and then the chain is followed.
+    pub fn take(
+        &mut self,
+        value: u16,
+        copies: &[Descriptor],
+        segments: &mut [Segment],
+    ) -> Result<Walked, Refusal>
+        ensures ok { IfOk result (λ w. TakesTo (regions self.old) value copies.now segments.new w self.old.ring self.new.ring) }
+        ensures err { IfErr result (λ f. NotTaken (regions self.old) value copies.now f self.old.ring self.new.ring) }
+        ensures len { length segments.new ≡ length segments.old }
+        ensures memory { regions self.new ≡ regions self.old }
+    {
+        self.begin(value)?;
+        self.walk(copies, segments)
+    }
+
+    // The next chain is followed, where this was read of it: a head, or flags.
+    fn begin(&mut self, value: u16) -> Result<(), Refusal>
+        ensures begins { Begins value result self.old.ring self.new.ring }
+        ensures memory { regions self.new ≡ regions self.old }
+    {
+        match &mut self.ring {
+            Ring::Stopped => Err(Refusal::NotStarted),
+            Ring::Split(queue) => match queue.pop(value) {
+                Ok(()) => Ok(()),
+                Err(error) => Err(Refusal::Queue(error)),
+            },
+            Ring::Packed(queue) => match queue.pop(value) {
+                Ok(true) => Ok(()),
+                Ok(false) => Err(Refusal::Queue(Error::NothingAvailable)),
+                Err(error) => Err(Refusal::Queue(error)),
+            },
+        }
+    }
+
+    // The first of these descriptors are followed that are as most are, in a split queue: how many, and how many segments they are.
+    fn run(&mut self, copies: &[Descriptor], segments: &mut [Segment]) -> (usize, usize)
+        ensures runs { RunsBy (regions self.old) copies.now result.0 (take result.1 segments.new) self.old.ring self.new.ring }
+        ensures most { (result.0 ≤ length copies.now) × (result.1 ≤ length segments.new) }
+        ensures len { length segments.new ≡ length segments.old }
+        ensures memory { regions self.new ≡ regions self.old }
+    {
+        match &mut self.ring {
+            Ring::Split(queue) => run_of(&mut self.memory, queue, copies, segments),
+            _ => (0, 0),
+        }
     }
 
     // Whether a descriptor's first bytes came, and the rest of it comes next.
@@ -356,6 +407,21 @@ impl DeviceQueue {
         }
     }
 
+    /// The entries of a split queue's available ring that are to be read next, one behind the other: so many at most, up to the last one
+    /// that is available, and up to the end of the ring.
+    pub fn heads_place(&self, most: usize) -> Result<HostRange, Refusal>
+        ensures { result ≡ heads_place self.now.ring most }
+    {
+        match &self.ring {
+            Ring::Stopped => Err(Refusal::NotStarted),
+            Ring::Packed(_) => Err(Refusal::OtherLayout),
+            Ring::Split(queue) => match queue.avail_entries_place(most) {
+                Some(place) => Ok(place),
+                None => Err(Refusal::Queue(Error::NothingAvailable)),
+            },
+        }
+    }
+
     /// The next entry of a split queue's available ring was read as this head, whose chain is followed.
     pub fn pop(&mut self, head: u16) -> Result<(), Refusal>
         ensures takes { ByLayout (Takes popped refused_pop head result) (λ q p. (result ≡ Err OtherLayout) × (p ≡ q)) (result ≡ Err NotStarted) self.old.ring self.new.ring }
@@ -470,6 +536,33 @@ impl DeviceQueue {
                 Err(error) => Err(Refusal::Queue(error)),
             },
         }
+    }
+
+    /// The device is done with the chains of these heads or ids, and wrote so many bytes of each: how many of them it was done with, in order, and
+    /// what is to be written for each. All of them were, or the next is refused, as `add_used` says. NoRoom: one has no length or no place, and none
+    /// was.
+    pub fn add_used_many(
+        &mut self,
+        ids: &[u16],
+        lens: &[u32],
+        used: &mut [Used],
+    ) -> (usize, Result<(), Refusal>)
+        ensures uses { UsesAll ids.now lens.now (length used.old) result.1 result.0 (take result.0 used.new) self.old.ring self.new.ring }
+        ensures len { length used.new ≡ length used.old }
+        ensures memory { regions self.new ≡ regions self.old }
+    {
+        if lens.len() < ids.len() || used.len() < ids.len() {
+            return (0, Err(Refusal::NoRoom));
+        }
+        let mut done = 0usize;
+        while done < ids.len() {
+            match self.add_used(ids[done], lens[done]) {
+                Ok(elem) => used[done] = elem,
+                Err(refusal) => return (done, Err(refusal)),
+            }
+            done += 1;
+        }
+        (done, Ok(()))
     }
 
     /// What is to be read before `needs_notification`.

@@ -2,7 +2,7 @@
 
 ghost use Rattle.std.specs.Prelude.{◌≡◌, Option, Result, Ok};
 ghost use Rattle.vhost_queue.specs.declared.memory.HostRange.{HostRange as Range};
-ghost use Rattle.vhost_c_queue.specs.DeviceQueue.{available_place, descriptor_place, event_write, head_place, notification_place};
+ghost use Rattle.vhost_c_queue.specs.DeviceQueue.{available_place, descriptor_place, event_write, head_place, heads_place, notification_place};
 ghost use Rattle.vhost_c_queue.specs.declared.records.EventWrite.{EventWrite as Event};
 ghost use Rattle.vhost_c_queue.specs.declared.refusal.Refusal.{Refusal};
 ghost use Rattle.vhost_c_queue_calls.specs.Calls.{Calls, Said, SaidIf};
@@ -45,6 +45,26 @@ pub extern "C" fn covretin_queue_head_place(
         None => number_of(Err(Refusal::NoQueue)),
         Some(held) => {
             let outcome = held.head_place();
+            queue.put(held);
+            told(outcome, place)
+        }
+    }
+}
+
+/// The entries of a split queue's available ring that are to be read next, one behind the other: so many at most.
+#[unsafe(no_mangle)]
+pub extern "C" fn covretin_queue_heads_place(
+    alloc: Global,
+    queue: &mut QueueHolder,
+    most: usize,
+    place: &mut HostRange,
+) -> u32
+    ensures { Calls (λ s t. (r : Result Range Refusal) × Said r result place.old place.new × (r ≡ heads_place s.ring most) × (t ≡ s)) queue.old.session result queue.new.session }
+{
+    match queue.take(alloc) {
+        None => number_of(Err(Refusal::NoQueue)),
+        Some(held) => {
+            let outcome = held.heads_place(most);
             queue.put(held);
             told(outcome, place)
         }

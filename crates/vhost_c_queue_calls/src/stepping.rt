@@ -1,10 +1,11 @@
 //! What was read.
 
-ghost use Rattle.std.specs.Prelude.{◌≡◌, ℕ, Bool, Option, Result, Err, ⊤};
+ghost use Rattle.std.specs.Prelude.{◌≡◌, ℕ, Bool, Option, None, Result, Err, ⊤, length, take};
 ghost use Rattle.vhost_queue.specs.Queue.{adopted, broken, given_back, popped, refused_pop, resubmitted};
 ghost use Rattle.vhost_queue.specs.declared.descriptor.Segment.{Segment as Part};
 ghost use Rattle.vhost_c_queue.specs.DeviceQueue.{Alters, Answers, ByLayout, HearsPacked, HearsSplit, Takes, TakesAgain, TellsPacked, TellsSplit, UsesPacked, UsesSplit, regions};
 ghost use Rattle.vhost_c_queue.specs.Number.{outcome_number};
+ghost use Rattle.vhost_c_queue.specs.Using.{UsesAll};
 ghost use Rattle.vhost_c_queue.specs.Walking.{Steps};
 ghost use Rattle.vhost_c_queue.specs.declared.records.Used.{Used as Elem};
 ghost use Rattle.vhost_c_queue.specs.declared.refusal.Refusal.{Refusal};
@@ -150,6 +151,35 @@ pub extern "C" fn covretin_queue_add_used(
             let outcome = held.add_used(id, len);
             queue.put(held);
             told(outcome, used)
+        }
+    }
+}
+
+/// The device is done with the chains of these heads or ids, and wrote so many bytes of each: how many of them it was done with, in order, and what
+/// is to be written for each.
+#[unsafe(no_mangle)]
+pub extern "C" fn covretin_queue_add_used_many(
+    alloc: Global,
+    queue: &mut QueueHolder,
+    ids: &[u16],
+    lens: &[u32],
+    used: &mut [Used],
+    done: &mut usize,
+) -> u32
+    ensures calls { Calls (λ s t. (r : Result ⊤ Refusal) × (result ≡ outcome_number r) × UsesAll ids.now lens.now (length used.old) r done.new (take done.new used.new) s.ring t.ring × (regions t ≡ regions s)) queue.old.session result queue.new.session }
+    ensures len { length used.new ≡ length used.old }
+    ensures none { queue.old.session ≡ None → done.new ≡ 0 }
+{
+    match queue.take(alloc) {
+        None => {
+            *done = 0;
+            number_of(Err(Refusal::NoQueue))
+        }
+        Some(mut held) => {
+            let (count, outcome) = held.add_used_many(ids, lens, used);
+            queue.put(held);
+            *done = count;
+            number_of(outcome)
         }
     }
 }

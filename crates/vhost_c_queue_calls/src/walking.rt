@@ -2,6 +2,7 @@
 
 ghost use Rattle.std.specs.Prelude.{◌≡◌, Result, Ok, length, IfOk, IfErr};
 ghost use Rattle.vhost_c_queue.specs.DeviceQueue.{regions};
+ghost use Rattle.vhost_c_queue.specs.Taking.{NotTaken, TakesTo};
 ghost use Rattle.vhost_c_queue.specs.Walking.{Stops, WalksTo, chain_of, table_at};
 ghost use Rattle.vhost_c_queue.specs.declared.records.Table.{Table as Place};
 ghost use Rattle.vhost_c_queue.specs.declared.records.Walked.{Walked as Far};
@@ -48,6 +49,29 @@ pub extern "C" fn covretin_queue_walk(
         None => number_of(Err(Refusal::NoQueue)),
         Some(mut held) => {
             let outcome = held.walk(copies, segments);
+            queue.put(held);
+            told(outcome, walked)
+        }
+    }
+}
+
+/// The next chain begins, where this was read: the next entry of a split queue's available ring, or the flags of a packed queue's next place. And its
+/// first descriptors were read as these: how far it was followed by them, and its segments.
+#[unsafe(no_mangle)]
+pub extern "C" fn covretin_queue_take(
+    alloc: Global,
+    queue: &mut QueueHolder,
+    value: u16,
+    copies: &[Descriptor],
+    segments: &mut [Segment],
+    walked: &mut Walked,
+) -> u32
+    ensures { Calls (λ s t. (r : Result Far Refusal) × Said r result walked.old walked.new × IfOk r (λ w. TakesTo (regions s) value copies.now segments.new w s.ring t.ring) × IfErr r (λ f. NotTaken (regions s) value copies.now f s.ring t.ring) × (length segments.new ≡ length segments.old) × (regions t ≡ regions s)) queue.old.session result queue.new.session }
+{
+    match queue.take(alloc) {
+        None => number_of(Err(Refusal::NoQueue)),
+        Some(mut held) => {
+            let outcome = held.take(value, copies, segments);
             queue.put(held);
             told(outcome, walked)
         }

@@ -6,7 +6,7 @@ ghost use Rattle.vhost_backend_req_handler_core.specs.Concluding.{seen_bases, se
 ghost use Rattle.vhost_device.specs.Answers.{seen_bits};
 ghost use Rattle.vhost_message.specs.FlagBits.{config_bits, vring_addr_bits};
 ghost use Rattle.vhost_message.specs.Transfer.{direction_number, phase_number};
-ghost use Rattle.vhost_protocol.specs.DeviceCall.{Call, Answer, SetOwner, ResetOwner, ResetDevice, GetFeatures, SetFeatures, SetMemTable, SetVringNum, SetVringAddr, SetVringBase, GetVringBase, SetVringKick, SetVringCall, SetVringErr, GetProtocolFeatures, SetProtocolFeatures, GetQueueNum, SetVringEnable, GetConfig, SetConfig, SetBackendReqFd, SetGpuSocket, GetSharedObject, GetInflightFd, SetInflightFd, GetMaxMemSlots, AddMemRegion, RemoveMemRegion, SetDeviceStateFd, CheckDeviceState, GetShmemConfig, PostcopyAdvice, PostcopyListen, PostcopyEnd, PostcopyAckMemRegions, SetLogBase, SetMtu, Other};
+ghost use Rattle.vhost_protocol.specs.DeviceCall.{Call, Answer, SetOwner, ResetOwner, ResetDevice, GetFeatures, SetFeatures, SetMemTable, SetVringNum, SetVringAddr, SetVringBase, GetVringBase, SetVringKick, SetVringCall, SetVringErr, GetProtocolFeatures, SetProtocolFeatures, GetQueueNum, SetVringEnable, GetConfig, SetConfig, SetBackendReqFd, SetGpuSocket, GetSharedObject, GetInflightFd, SetInflightFd, GetMaxMemSlots, AddMemRegion, RemoveMemRegion, SetDeviceStateFd, CheckDeviceState, GetShmemConfig, PostcopyAdvice, PostcopyListen, PostcopyEnd, PostcopyAckMemRegions, SetLogBase, SetMtu};
 ghost use Rattle.vhost_protocol.specs.Error.{seen_result};
 
 use vhost_backend_req::Backend;
@@ -25,6 +25,9 @@ use vhost_message::{
 /// A ring is named by its index. Errors are the device's own. Regions and areas of memory are in bytes, by the addresses
 /// that their records say. There are no default bodies, also for `set_backend_req_fd`: a device that has no use for the
 /// channel lets it go.
+///
+/// A request without a call here, which a session hears under `Profile::Standard` alone, is refused, and the device is not
+/// called. Whoever serves such requests, takes them as values: `DeviceCall::Other` of `BackendReqHandler::receive`.
 ///
 /// Mirrors `vhost::vhost_user::VhostUserBackendReqHandlerMut`, call by call.
 pub trait VhostUserBackendReqHandlerMut: Drop {
@@ -221,16 +224,4 @@ pub trait VhostUserBackendReqHandlerMut: Drop {
     /// (VHOST_USER_SET_LOG_BASE).
     fn set_log_base(&mut self, log: &VhostUserLog, file: <Self::Link as Link>::Handle) -> Result<()>
         ensures { gives self.old (SetLogBase log.now file) (seen_result result) self.new };
-
-    /// Gives the device a request without a call of its own here, under `Profile::Standard`: its number, its body, and the
-    /// file descriptors that came with it. An error says that it is not served.
-    ///
-    /// Has no counterpart in `vhost`.
-    fn other(
-        &mut self,
-        request: u32,
-        body: &[u8],
-        files: Vec<<Self::Link as Link>::Handle>,
-    ) -> Result<()>
-        ensures { gives self.old (Other request body.now files.items) (seen_result result) self.new };
 }

@@ -237,14 +237,4 @@ impl<T: VhostUserBackendReqHandlerMut> VhostUserBackendReqHandler for Mutex<T> {
     ) -> Result<()> {
         self.lock(rt).set_log_base(log, file)
     }
-
-    fn other(
-        &self,
-        rt: &impl Wait,
-        request: u32,
-        body: &[u8],
-        files: Vec<<T::Link as Link>::Handle>,
-    ) -> Result<()> {
-        self.lock(rt).other(request, body, files)
-    }
 }

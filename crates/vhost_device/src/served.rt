@@ -226,15 +226,4 @@ impl<'a, S: VhostUserBackendReqHandler, R: Wait> VhostUserBackendReqHandlerMut
     fn set_log_base(&mut self, log: &VhostUserLog, file: <S::Link as Link>::Handle) -> Result<()> {
         self.device.set_log_base(self.rt, log, file)
     }
-
-    fn other(
-        &mut self,
-        request: u32,
-        body: &[u8],
-        files: Vec<<S::Link as Link>::Handle>,
-    ) -> Result<()>
-        ensures { ⊤ }
-    {
-        self.device.other(self.rt, request, body, files)
-    }
 }

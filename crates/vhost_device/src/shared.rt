@@ -213,18 +213,4 @@ pub trait VhostUserBackendReqHandler: Drop {
         log: &VhostUserLog,
         file: <Self::Link as Link>::Handle,
     ) -> Result<()>;
-
-    /// Gives the device a request without a call of its own here, under `Profile::Standard`: its number, its body, and the
-    /// file descriptors that came with it. An error says that it is not served, as the device says that has no such call.
-    ///
-    /// Has no counterpart in `vhost`.
-    fn other(
-        &self,
-        _rt: &impl Wait,
-        _request: u32,
-        _body: &[u8],
-        _files: Vec<<Self::Link as Link>::Handle>,
-    ) -> Result<()> {
-        Err(Error::InvalidMessage)
-    }
 }

@@ -2,7 +2,7 @@
 
 ghost use Rattle.std.specs.Prelude.{◌≡◌, ◌^◌, Ok, Err, IfOk, map, if◌then◌else◌};
 ghost use Rattle.vhost_message.specs.Bits.{has_bit as is_set};
-ghost use Rattle.vhost_protocol.specs.DeviceCall.{SetMemTable, SetVringKick, SetVringCall, SetVringErr, SetBackendReqFd, SetGpuSocket, Other};
+ghost use Rattle.vhost_protocol.specs.DeviceCall.{SetMemTable, SetVringKick, SetVringCall, SetVringErr, SetBackendReqFd, SetGpuSocket};
 ghost use Rattle.vhost_protocol.specs.Error.{InactiveOperation, seen_result};
 ghost use Rattle.vhost_protocol.specs.Features.{CONFIG};
 ghost use Rattle.vhost_backend_req_handler_core.specs.Concluding.{seen_bases};
@@ -329,11 +329,5 @@ impl<L: Link> VhostUserBackendReqHandlerMut for DummyBackendReqHandler<L> {
 
     fn set_log_base(&mut self, _log: &VhostUserLog, _file: L::Handle) -> Result<()> {
         Ok(())
-    }
-
-    fn other(&mut self, _request: u32, _body: &[u8], _files: Vec<L::Handle>) -> Result<()>
-        ensures { DummyGives {B = Backend L L.Handle} {G = GpuBackend L L.Handle} L.Handle.duplicates self.old (Other _request _body.now _files.items) (seen_result result) self.new }
-    {
-        Err(Error::InvalidOperation("request not served"))
     }
 }

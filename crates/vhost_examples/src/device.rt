@@ -245,10 +245,4 @@ impl VhostUserBackendReqHandlerMut for Device {
     fn set_log_base(&mut self, _log: &VhostUserLog, _file: NoHandle) -> Result<()> {
         Err(UNUSED)
     }
-
-    fn other(&mut self, _request: u32, _body: &[u8], _files: Vec<NoHandle>) -> Result<()>
-        ensures { self.new ≡ self.old }
-    {
-        Err(UNUSED)
-    }
 }

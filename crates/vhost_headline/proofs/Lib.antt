@@ -1,3 +1,4 @@
 pub mod CalledOnce
 pub mod OneCall
+pub mod Running
 pub mod Joining

@@ -1,6 +1,6 @@
 -- One call of a backend, in the words of the theorem.
-use Rattle.std.proofs.Common.{◌≡◌, ◌∙◌, ℕ, true, false, List, [], ◌∷◌, Option, Some, None, Result, Ok, Err, inl, inr, refl, sym, ap, subst, ℤ}
-use Rattle.std.specs.Prelude.{◌||◌, ⊤}
+use Rattle.std.proofs.Common.{◌≡◌, ◌⊎◌, ◌∙◌, ℕ, false, List, Option, Some, None, Result, Ok, Err, inl, inr, refl, sym, ap, subst, ℤ}
+use Rattle.std.specs.Prelude.{⊤}
 use Rattle.vhost_message.specs.declared.cause.IoCause.{IoCause}
 use Rattle.vhost_message.specs.declared.cause.IoCause.TheVariants.{Raw}
 use Rattle.vhost_message.specs.declared.error.Error as declared
@@ -17,7 +17,7 @@ use Rattle.vhost_protocol.specs.Stream.{Cell, Item}
 use Rattle.vhost_link.specs.Law.{Event, Move, move}
 use Rattle.vhost_connection.specs.Talk.{State, Talks, First, Trouble}
 use Rattle.vhost_connection.specs.Talk.Trouble.{was_broken, no_memory, fault}
-use Rattle.vhost_connection.specs.Serving.{Handled, HandlesOne}
+use Rattle.vhost_connection.specs.Serving.{Breaks, Handled, HandlesOne}
 use Rattle.vhost_connection.specs.Serving.Breaks.{unread, unanswered}
 use Rattle.vhost_connection.proofs.Serving.{as-entry}
 use Rattle.vhost_backend_req_handler.specs.Serving.{fitting, kept_unsent}
@@ -29,9 +29,10 @@ use Rattle.vhost_backend_req_handler.specs.Core.{endpoint_of, session_in}
 use Rattle.vhost_backend_req_handler.specs.Opening.{OpensAsBackend, OpensAsGpu}
 use Rattle.vhost_promises.proofs.Faulting.{met-fault}
 use Rattle.vhost_promises.proofs.Unserved.{unserved}
-use Rattle.vhost_promises.proofs.Whole.{breaks-of-link}
-use Rattle.vhost_promises.specs.Runs.{of_link}
-use Rattle.vhost_headline.specs.Headline.{Carries, MeetsItsRow, NothingFailed, SafeAndTotal}
+use Rattle.vhost_connection.specs.Hearing.{Hears}
+use Rattle.vhost_protocol.specs.Split.{split}
+use Rattle.vhost_headline.specs.Headline.{CallsAtMostOnce, Carries, MeetsItsRowOrFails, NotServed, SafeAndTotal}
+use Rattle.vhost_headline.specs.Headline.NotServed.{over as had_ended, poisoned, no_memory as without_memory, fault as faults}
 use Rattle.vhost_headline.proofs.CalledOnce.{Once, met-once, stopped-once}
 
 -- where an endpoint met no fault, it is broken only if it was
@@ -40,12 +41,22 @@ troubled-sound event old limit m e new (was_broken b n same) none = ap (λ x. x.
 troubled-sound event old limit m e new (no_memory g b l n same) none = ap (λ x. x.broken) same
 troubled-sound event old limit m e new (fault c b f k few spent broken faulted kept) none = absurd (cc (sym faulted ∙ none))
 
+-- trouble before a whole request came is why it was not served
+troubled-not : {L H Dev : Type 0} (event : L → Event H → L → Type 0) (old : State L H) (limit : ℕ) (m : Move H) (s : Session) (d : Dev) (e : declared.Error) (new : State L H) (s' : Session) (d' : Dev)
+    → Trouble event old limit First false m e new → s' ≡ s → d' ≡ d → NotServed old s d (Err e) new s' d'
+troubled-not event old limit m s d e new s' d' (was_broken {c = c} b n same) kept still = poisoned c b
+troubled-not event old limit m s d e new s' d' (no_memory g b l n same) kept still = without_memory l refl same kept still
+troubled-not event old limit m s d e new s' d' (fault c b f k few spent broken faulted left) kept still = faults faulted
+
 module _ {L H B G Dev : Type 0} (event : L → Event H → L → Type 0) (gives : Dev → (c : Call H B G) → Answer c → Dev → Type 0) (opens_backend : H → Result B Error → Type 0) (opens_gpu : H → Result G Error → Type 0) where
   abbrev Meets : Session → Dev → Message HeardReq H → Result ⊤ Error → List (Cell H) → Session → Dev → Type 0
   Meets = MeetsRow (fitting gives) opens_backend opens_gpu
 
   abbrev Whole : State L H → Session → Dev → Result ⊤ Error → State L H → Session → Dev → Type 0
   Whole = Handled event heard_in allows_handles (λ (t : Session). t.failed) kept_unsent Meets
+
+  abbrev pub Broken : State L H → Session → Dev → declared.Error → State L H → Session → Dev → Type 0
+  Broken = Breaks event heard_in allows_handles (λ (t : Session). t.failed) kept_unsent Meets
 
   abbrev One : State L H → Session → Dev → Result ⊤ declared.Error → State L H → Session → Dev → Type 0
   One = HandlesOne event heard_in allows_handles (λ (t : Session). t.failed) kept_unsent Meets
@@ -60,17 +71,36 @@ module _ {L H B G Dev : Type 0} (event : L → Event H → L → Type 0) (gives 
 
   -- ---- the device
 
-  heard-once : (heard : Result (Message HeardReq H) Error) (s : Session) (d : Dev) (answer : Result ⊤ Error) (written : List (Cell H)) (s' : Session) (d' : Dev)
-      → run.Handles heard_in allows_handles (λ (t : Session). t.failed) Meets s d heard answer written s' d' → Once gives opens_backend opens_gpu s d s' d'
-  heard-once (Err e) s d answer written s' d' (is, silent, same, still) = inr (still, inl same)
-  heard-once (Ok m) s d answer written s' d' met = met-once gives opens_backend opens_gpu s d m answer written s' d' met
+  -- the request came whole, where the device was called
+  abbrev pub AtMostOnce : State L H → Session → Dev → Session → Dev → Type 0
+  AtMostOnce = CallsAtMostOnce event gives
 
-  pub called-once : (old : State L H) (s : Session) (d : Dev) (result : Result ⊤ declared.Error) (new : State L H) (s' : Session) (d' : Dev) → One old s d result new s' d' → Once gives opens_backend opens_gpu s d s' d'
-  called-once old s d (Ok a) new s' d' h = heard-once h.heard s d (Ok a) h.written s' d' h.handles
-  called-once old s d (Err e) new s' d' (inl h) = heard-once h.heard s d _ h.written s' d' h.handles
-  called-once old s d (Err e) new s' d' (inr (unread part same still)) = inr (still, inl same)
-  called-once old s d (Err e) new s' d' (inr (unanswered m mid hears i)) =
-      stopped-once gives opens_backend opens_gpu m.request s d i.after s' d' i.session (met-once gives opens_backend opens_gpu s d m i.answer i.written i.after d' i.meets)
+  with-request : (old : State L H) (s : Session) (d : Dev) (m : Message HeardReq H) (mid : State L H) (s' : Session) (d' : Dev) → Hears event (split (heard_in s) allows_handles) old (Ok m) mid
+      → Once gives opens_backend opens_gpu s d s' d' → AtMostOnce old s d s' d'
+  with-request old s d m mid s' d' hears (inl (c, a, gave)) = inl (m, mid, hears, c, a, gave)
+  with-request old s d m mid s' d' hears (inr still) = inr still
+
+  heard-once : (old : State L H) (heard : Result (Message HeardReq H) Error) (mid : State L H) (s : Session) (d : Dev) (answer : Result ⊤ Error) (written : List (Cell H)) (s' : Session) (d' : Dev)
+      → Hears event (split (heard_in s) allows_handles) old heard mid
+      → run.Handles heard_in allows_handles (λ (t : Session). t.failed) Meets s d heard answer written s' d' → AtMostOnce old s d s' d'
+  heard-once old (Err e) mid s d answer written s' d' hears (is, silent, same, still) = inr (still, inl same)
+  heard-once old (Ok m) mid s d answer written s' d' hears met = with-request old s d m mid s' d' hears (met-once gives opens_backend opens_gpu s d m answer written s' d' met)
+
+  -- where the call was not served
+  pub broken-once : (old : State L H) (s : Session) (d : Dev) (e : declared.Error) (new : State L H) (s' : Session) (d' : Dev) → Broken old s d e new s' d' → AtMostOnce old s d s' d'
+  broken-once old s d e new s' d' (unread part same still) = inr (still, inl same)
+  broken-once old s d e new s' d' (unanswered m mid hears i) = with-request old s d m mid s' d' hears
+      (stopped-once gives opens_backend opens_gpu m.request s d i.after s' d' i.session (met-once gives opens_backend opens_gpu s d m i.answer i.written i.after d' i.meets))
+
+  pub called-once : (old : State L H) (s : Session) (d : Dev) (result : Result ⊤ declared.Error) (new : State L H) (s' : Session) (d' : Dev) → One old s d result new s' d' → AtMostOnce old s d s' d'
+  called-once old s d (Ok a) new s' d' h = heard-once old h.heard h.mid s d (Ok a) h.written s' d' h.hears h.handles
+  called-once old s d (Err e) new s' d' (inl h) = heard-once old h.heard h.mid s d _ h.written s' d' h.hears h.handles
+  called-once old s d (Err e) new s' d' (inr b) = broken-once old s d e new s' d' b
+
+  -- and it was not served for its link, or for want of memory
+  pub not-served : (old : State L H) (s : Session) (d : Dev) (e : declared.Error) (new : State L H) (s' : Session) (d' : Dev) → Broken old s d e new s' d' → NotServed old s d (Err e) new s' d'
+  not-served old s d e new s' d' (unread part same still) = troubled-not event old old.budget _ s d e new s' d' part.trouble same still
+  not-served old s d e new s' d' (unanswered m mid hears i) = faults i.stops.faulted
 
   -- ---- a row that was met
 
@@ -83,25 +113,14 @@ module _ {L H B G Dev : Type 0} (event : L → Event H → L → Type 0) (gives 
       let e = as-entry event heard_in allows_handles (λ (t : Session). t.failed) kept_unsent Meets old new s s' d d' answer alive h in
       (e.move.handed, e.move.taken, (e.move.retries, subst (λ n. Talks event old (move e.move.handed e.move.taken e.move.retries n) new) e.failures e.talks), e.handles)
 
-  -- an answer that fails is found
-  found : (e : declared.Error) → of_link e ≡ true → NothingFailed {A = ⊤} (Err e ∷ []) → ⊥
-  found e is none = let both : true ≡ false = sym (ap (λ b. b || false) is) ∙ none in absurd (cc both)
+  -- a row that was met, or a call that was not served
+  abbrev pub MetOrNot : State L H → Session → Dev → Result ⊤ declared.Error → State L H → Session → Dev → Type 0
+  MetOrNot old s d result new s' d' = MetRow old s d (seen_result result) new s' d' ⊎ NotServed old s d result new s' d'
 
-  meets-alive : (old : State L H) (s : Session) (d : Dev) (result : Result ⊤ declared.Error) (new : State L H) (s' : Session) (d' : Dev) → s.failed ≡ None → One old s d result new s' d' → NothingFailed (result ∷ []) → MetRow old s d (seen_result result) new s' d'
-  meets-alive old s d (Ok a) new s' d' alive h none = entered old s d (Ok a) new s' d' alive h
-  meets-alive old s d (Err e) new s' d' alive (inl h) none = entered old s d _ new s' d' alive h
-  meets-alive old s d (Err e) new s' d' alive (inr b) none =
-      absurd (found e (breaks-of-link event heard_in allows_handles (λ (t : Session). t.failed) kept_unsent Meets old s d e new s' d' b) none)
-
-  -- ---- by whether the session has ended
-
-  pub meets-row : (old : State L H) (s : Session) (d : Dev) (result : Result ⊤ declared.Error) (new : State L H) (s' : Session) (d' : Dev) → ((n : ℤ) → s.failed ≡ Some n → result ≡ Err (SocketBroken (Raw n))) → (s.failed ≡ None → One old s d result new s' d')
-      → NothingFailed (result ∷ []) → MetRow old s d (seen_result result) new s' d'
-  meets-row old s d result new s' d' over goes none = go s.failed refl
-    where
-      go : (mark : Option ℤ) → s.failed ≡ mark → MetRow old s d (seen_result result) new s' d'
-      go None alive = meets-alive old s d result new s' d' alive (goes alive) none
-      go (Some n) marked = absurd (found (SocketBroken (Raw n)) refl (subst (λ r. NothingFailed (r ∷ [])) (over n marked) none))
+  pub meets-alive : (old : State L H) (s : Session) (d : Dev) (result : Result ⊤ declared.Error) (new : State L H) (s' : Session) (d' : Dev) → s.failed ≡ None → One old s d result new s' d' → MetOrNot old s d result new s' d'
+  meets-alive old s d (Ok a) new s' d' alive h = inl (entered old s d (Ok a) new s' d' alive h)
+  meets-alive old s d (Err e) new s' d' alive (inl h) = inl (entered old s d _ new s' d' alive h)
+  meets-alive old s d (Err e) new s' d' alive (inr b) = inr (not-served old s d e new s' d' b)
 
 -- a session has ended, or not
 either : (P : Type 0) (s : Session) → ((n : ℤ) → s.failed ≡ Some n → P) → (s.failed ≡ None → P) → P
@@ -134,9 +153,10 @@ module _ {L H Dev : Type 0} (event : L → Event H → L → Type 0) (opens : L 
     failed = λ alive met. met-fault event heard_in allows_handles (λ (t : Session). t.failed) kept_unsent (MeetsRow (fitting gives) to_backend to_gpu) (endpoint_of old) (session_in old) d result (endpoint_of new) (session_in new) d' (goes alive) met;
     sound = λ none. either ((endpoint_of new).broken ≡ (endpoint_of old).broken) (session_in old) (λ n marked. ap (λ x. x.broken) (ends n marked).1)
         (λ alive. stays-sound event gives to_backend to_gpu (endpoint_of old) (session_in old) d result (endpoint_of new) (session_in new) d' (goes alive) none);
-    device = either (Once gives to_backend to_gpu (session_in old) d (session_in new) d') (session_in old) (λ n marked. inr ((ends n marked).3, inl (ends n marked).2))
+    device = either (CallsAtMostOnce event gives (endpoint_of old) (session_in old) d (session_in new) d') (session_in old) (λ n marked. inr ((ends n marked).3, inl (ends n marked).2))
         (λ alive. called-once event gives to_backend to_gpu (endpoint_of old) (session_in old) d result (endpoint_of new) (session_in new) d' (goes alive));
   }
 
-  pub each-call : Ends → Goes → NothingFailed (result ∷ []) → MeetsItsRow event opens kinds gives old d new d' result
-  each-call ends goes none = meets-row event gives to_backend to_gpu (endpoint_of old) (session_in old) d result (endpoint_of new) (session_in new) d' (λ n marked. (ends n marked).0) goes none
+  pub each-call : Goes → MeetsItsRowOrFails event opens kinds gives old d new d' result
+  each-call goes = either (MeetsItsRowOrFails event opens kinds gives old d new d' result) (session_in old) (λ n marked. inr (had_ended n marked))
+      (λ alive. meets-alive event gives to_backend to_gpu (endpoint_of old) (session_in old) d result (endpoint_of new) (session_in new) d' alive (goes alive))

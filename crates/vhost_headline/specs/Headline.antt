@@ -2,10 +2,6 @@
 pub mod Words
 use Words.*
 
--- no answer is an error that a link or a failed allocation may bring
-abbrev pub NothingFailed : {A : Type 0} → List (Result A Error) → Type 0
-NothingFailed answers = list_any answer_of_link answers ≡ false
-
 -- no link and no allocation stopped the run
 abbrev pub NothingStopped : {Dev : Type 0} → View Dev → Type 0
 NothingStopped run = run.stopped ≡ Some Premise → ⊥
@@ -17,6 +13,45 @@ Carries event old came written new = (retries : ℕ) × Talks event old (move ca
 -- the session is as it was, or has ended since it could not answer whoever waits
 abbrev pub Stays : Session → Session → Type 0
 Stays s t = (t ≡ s) ⊎ (t ≡ record s { failed = Some (pos 71) })
+
+-- Why a call was not served, whatever the device answers: the session had ended, or the endpoint was poisoned, before it; there was no memory for its list of handles, and nothing changed; or its link met a fault.
+pub data NotServed {L H Dev : Type 0} (old : State L H) (s : Session) (d : Dev) (result : Result ⊤ Error) (new : State L H) (s' : Session) (d' : Dev) : Type 0 where
+  over : (n : ℤ) → s.failed ≡ Some n → NotServed old s d result new s' d'
+  poisoned : (c : IoCause) → old.broken ≡ Some c → NotServed old s d result new s' d'
+  no_memory : old.list ≡ false → result ≡ Err OutOfMemory → new ≡ record old { faulted = false } → s' ≡ s → d' ≡ d → NotServed old s d result new s' d'
+  fault : new.faulted ≡ true → NotServed old s d result new s' d'
+
+-- The device is called once, for a request that came whole, and moves by its own relation; or it is not called.
+abbrev pub CallsAtMostOnce : {L H B G Dev : Type 0} → (L → Event H → L → Type 0) → (Dev → (c : Call H B G) → Answer c → Dev → Type 0) → State L H → Session → Dev → Session → Dev → Type 0
+CallsAtMostOnce {L} {H} {B} {G} event gives old s d s' d' =
+    ((m : Message HeardReq H) × (read : State L H) × Hears event (split (heard_in s) allows_handles) old (Ok m) read × (c : Call H B G) × (a : Answer c) × gives d c a d')
+    ⊎ ((d' ≡ d) × Stays s s')
+
+-- Any endpoint and any session.
+module _ {L H B G Dev : Type 0} (event : L → Event H → L → Type 0) (gives : Dev → (c : Call H B G) → Answer c → Dev → Type 0) (opens_backend : H → Result B SeenError → Type 0) (opens_gpu : H → Result G SeenError → Type 0) where
+  -- Many requests of one stream, in its order, and what was written in theirs. Under Standard whoever waits is answered once, or the session has ended; nobody else is answered.
+  pub record IsRun (old : State L H) (s : Session) (d : Dev) (answers : List (Result ⊤ Error)) (new : State L H) (s' : Session) (d' : Dev) : Type 0 where
+    pub came : List (Item H)
+    pub written : List (Cell H)
+    pub carries : Carries event old came written new
+    pub run : HandlesRequests (fitting gives) opens_backend opens_gpu s d (map (λ a. seen_result a) answers) came written s' d'
+    pub waits : s.profile ≡ Standard → AllAnswered s (map (λ a. seen_result a) answers) came written s'
+
+  -- a run up to a call that was not served; behind it calls may come that are served, or not
+  pub record IsRunUntil (old : State L H) (s : Session) (d : Dev) (answers : List (Result ⊤ Error)) : Type 0 where
+    pub served : List (Result ⊤ Error)
+    pub answer : Result ⊤ Error
+    pub later : List (Result ⊤ Error)
+    pub all : answers ≡ served ++ answer ∷ later
+    pub mid : State L H
+    pub mid_session : Session
+    pub mid_device : Dev
+    pub run : IsRun old s d served mid mid_session mid_device
+    pub next : State L H
+    pub next_session : Session
+    pub next_device : Dev
+    pub fails : NotServed mid mid_session mid_device answer next next_session next_device
+    pub device : CallsAtMostOnce event gives mid mid_session mid_device next_session next_device
 
 -- Any link, any device behind a backend, and both after some calls. A device is whatever relation `gives` its answers.
 module _ {L H Dev : Type 0} (event : L → Event H → L → Type 0) (opens : L → H → Result L IoCause → Type 0) (kinds : H → Result Kind IoCause → Type 0)
@@ -40,8 +75,8 @@ module _ {L H Dev : Type 0} (event : L → Event H → L → Type 0) (opens : L 
     pub failed : (session_in old).failed ≡ None → (endpoint_of new).faulted ≡ true → MeetsFault event (endpoint_of old) result (endpoint_of new)
     -- nothing else poisons it
     pub sound : (endpoint_of new).faulted ≡ false → (endpoint_of new).broken ≡ (endpoint_of old).broken
-    -- the device is called once, and moves by its own relation; or it is not called
-    pub device : ((c : Call H (Backend L H) (GpuBackend L H)) × (a : Answer c) × gives d c a d') ⊎ ((d' ≡ d) × Stays (session_in old) (session_in new))
+    -- the device is called once, for a request that came whole, and moves by its own relation; or it is not called
+    pub device : CallsAtMostOnce event gives (endpoint_of old) (session_in old) d (session_in new) d'
 
   -- ---- 2. Each call meets its row
 
@@ -50,16 +85,16 @@ module _ {L H Dev : Type 0} (event : L → Event H → L → Type 0) (opens : L 
   MeetsItsRow result = (came : List (Item H)) × (written : List (Cell H)) × Carries event (endpoint_of old) came written (endpoint_of new)
       × HandlesRequest (fitting gives) to_backend to_gpu (session_in old) d came (seen_result result) written (session_in new) d'
 
+  -- so does each call that is served
+  abbrev pub MeetsItsRowOrFails : Result ⊤ Error → Type 0
+  MeetsItsRowOrFails result = MeetsItsRow result ⊎ NotServed (endpoint_of old) (session_in old) d result (endpoint_of new) (session_in new) d'
+
   -- ---- 3. Whole runs
 
-  -- So many requests of one stream, in its order, and what was written in theirs. Under Standard whoever waits is answered once, or the session has ended; nobody else is answered.
-  pub record IsRun (count : ℕ) (answers : List (Result ⊤ Error)) : Type 0 where
-    pub as_many : length answers ≡ count
-    pub came : List (Item H)
-    pub written : List (Cell H)
-    pub carries : Carries event (endpoint_of old) came written (endpoint_of new)
-    pub run : HandlesRequests (fitting gives) to_backend to_gpu (session_in old) d (map (λ a. seen_result a) answers) came written (session_in new) d'
-    pub waits : (session_in old).profile ≡ Standard → AllAnswered (session_in old) (map (λ a. seen_result a) answers) came written (session_in new)
+  -- So many answers. They are a run, as far as the calls were served.
+  abbrev pub RunsAsServed : ℕ → List (Result ⊤ Error) → Type 0
+  RunsAsServed count answers = (length answers ≡ count)
+      × (IsRun event gives to_backend to_gpu (endpoint_of old) (session_in old) d answers (endpoint_of new) (session_in new) d' ⊎ IsRunUntil event gives to_backend to_gpu (endpoint_of old) (session_in old) d answers)
 
 -- ---- 4. Lockstep
 

@@ -1,7 +1,7 @@
 //! The theorem: what the library promises over every link and of every device, each statement the contract of one function.
 
 ghost use Rattle.std.specs.Prelude.{◌≡◌, ◌≤◌, ◌∷◌, [], Bool, IfOk, length, map};
-ghost use Rattle.vhost_headline.specs.Headline.{IsInStep, IsLegalLog, IsRun, MeetsItsRow, NothingFailed, NothingStopped, SafeAndTotal};
+ghost use Rattle.vhost_headline.specs.Headline.{IsInStep, IsLegalLog, MeetsItsRowOrFails, NothingStopped, RunsAsServed, SafeAndTotal};
 ghost use Rattle.vhost_message.specs.declared.limits.TheConstants.{MAX_ATTACHED_FD_ENTRIES};
 ghost use Rattle.vhost_joined.specs.Joined.{Offers};
 ghost use Rattle.vhost_joined.specs.Lockstep.{ArePlain};
@@ -9,6 +9,7 @@ ghost use Rattle.vhost_promises.specs.Rings.{Arrives, part_cells, sent_cells};
 ghost use Rattle.vhost_promises.specs.Shared.{OwnAnswer};
 ghost use Rattle.vhost_recorder.specs.Share.{count_of, parts_of};
 ghost use Rattle.vhost_protocol.specs.FrontendCall as call;
+ghost use Rattle.vhost_device.specs.Reached.{by_trait};
 
 use std::alloc::{AllocError, Global};
 use std::sync::Wait;
@@ -20,7 +21,7 @@ use vhost_frontend::Frontend;
 use vhost_frontend_core::{FrontendAnswer, FrontendCall};
 use vhost_joined::{Halt, Joined};
 use vhost_link::{Cut, Link, MemLink, PlainHandle};
-use vhost_promises::{Carried, carries, own_features, serves_whole};
+use vhost_promises::{Carried, carries, own_features};
 use vhost_protocol::Profile;
 use vhost_recorder::{Log, Recorder, Share};
 
@@ -29,31 +30,33 @@ pub fn safe_and_total<L: Link, D: VhostUserBackendReqHandlerMut<Link = L>>(
     core: &mut SessionCore<L>,
     device: &mut D,
 ) -> vhost_message::Result<()>
-    ensures { SafeAndTotal L.event L.opens L.Handle.kinds D.gives core.old device.old core.new device.new result }
+    ensures { SafeAndTotal L.event L.opens L.Handle.kinds (by_trait D.gives) core.old device.old core.new device.new result }
 {
     core.handle_request(device)
 }
 
-/// 2. Each call meets its row, where nothing failed.
+/// 2. Each call meets its row, or its link or want of memory kept it from being served.
 pub fn each_call<L: Link, D: VhostUserBackendReqHandlerMut<Link = L>>(
     core: &mut SessionCore<L>,
     device: &mut D,
 ) -> vhost_message::Result<()>
-    ensures { NothingFailed (result ∷ []) → MeetsItsRow L.event L.opens L.Handle.kinds D.gives core.old device.old core.new device.new result }
+    ensures { MeetsItsRowOrFails L.event L.opens L.Handle.kinds (by_trait D.gives) core.old device.old core.new device.new result }
 {
     core.handle_request(device)
 }
 
-/// 3. Whole runs: so many requests, where nothing failed.
+/// 3. Whole runs: so many requests, as far as they were served.
 pub fn whole_runs<L: Link, D: VhostUserBackendReqHandlerMut<Link = L>>(
     alloc: Global,
     core: &mut SessionCore<L>,
     device: &mut D,
     count: usize,
 ) -> vhost_message::Result<Vec<vhost_message::Result<()>>>
-    ensures { IfOk result (λ answers. NothingFailed answers.items → IsRun L.event L.opens L.Handle.kinds D.gives core.old device.old core.new device.new count answers.items) }
+    ensures { IfOk result (λ answers. RunsAsServed L.event L.opens L.Handle.kinds (by_trait D.gives) core.old device.old core.new device.new count answers.items) }
 {
-    serves_whole(alloc, core, device, count)
+    let mut answers = Vec::new(alloc);
+    core.run(count, device, &mut answers)?;
+    Ok(answers)
 }
 
 /// 4. Lockstep: a frontend joined to a backend over links in memory, which go as the scripts say.
@@ -66,7 +69,7 @@ pub fn lockstep<D: VhostUserBackendReqHandlerMut<Link = MemLink>>(
     scripts: (Vec<Cut>, Vec<Cut>),
     calls: &[FrontendCall],
 ) -> Result<(Joined<D>, Vec<FrontendAnswer>), Halt>
-    ensures { IfOk result (λ done. (bit : Bool) → Offers D.gives bit → ArePlain calls.now → NothingStopped done.0 → IsInStep D.gives profile queues device calls.now done.1.items done.0) }
+    ensures { IfOk result (λ done. (bit : Bool) → Offers (by_trait D.gives) bit → ArePlain calls.now → NothingStopped done.0 → IsInStep (by_trait D.gives) profile queues device calls.now done.1.items done.0) }
 {
     let mut joined = Joined::new(alloc, device, queues, retries, scripts)?;
     joined.set_profile(profile);
@@ -83,7 +86,7 @@ pub fn threads<D: VhostUserBackendReqHandlerMut<Link = MemLink>, L: Ledger>(
 ) -> Log<D>
     requires { parts_of whole ≡ L.parts }
     ensures as_many { length result.entries ≡ count_of whole }
-    ensures legal { IsLegalLog D.gives result }
+    ensures legal { IsLegalLog (by_trait D.gives) result }
 {
     let log = recorder.close(whole);
     let _ = log.entries();

@@ -14,6 +14,7 @@ fn main(rt: HostRuntime) -> ExitCode {
         ("safe_and_total", runs::cut_short(alloc)),
         ("each_call", runs::features(alloc)),
         ("whole_runs", runs::three(alloc)),
+        ("whole_runs over a link that is reset", runs::reset(alloc)),
         ("lockstep", runs::joined(alloc)),
         ("threads", runs::two_callers(&rt, alloc)),
         ("own_answer", runs::shared(&rt, alloc)),

@@ -32,6 +32,11 @@ static FEATURES: [u8; 20] = [
 fn session(alloc: Global, bytes: &[u8]) -> Option<SessionCore<MemLink>> {
     let mut script = Vec::new(alloc);
     script.push(Cut::Give(5)).ok()?;
+    session_over(alloc, script, bytes)
+}
+
+/// A session whose link hands out these bytes, as its script says.
+fn session_over(alloc: Global, script: Vec<Cut>, bytes: &[u8]) -> Option<SessionCore<MemLink>> {
     let mut link = MemLink::new(alloc, script);
     link.push(bytes, &[]).ok()?;
     SessionCore::new(alloc, link, 3).ok()
@@ -68,6 +73,26 @@ pub(crate) fn three(alloc: Global) -> Option<bool> {
         [Ok(()), Ok(()), Err(Error::InvalidOperation(_))]
     );
     Some(is_right && wrote(&mut core, &FEATURES))
+}
+
+/// Whether a run ends at the request amid which its link is reset, and the device is not called for that one.
+pub(crate) fn reset(alloc: Global) -> Option<bool> {
+    let mut script = Vec::new(alloc);
+    for cut in [Cut::Give(12), Cut::Give(20), Cut::Give(5), Cut::Fault(104)] {
+        script.push(cut).ok()?;
+    }
+    let mut core = session_over(alloc, script, &THREE)?;
+    let mut device = DummyBackendReqHandler::new(alloc, Vec::new(alloc));
+    let answers = headline::whole_runs(alloc, &mut core, &mut device, 3).ok()?;
+    let is_right = matches!(
+        answers.as_slice(),
+        [
+            Ok(()),
+            Err(Error::SocketBroken(_)),
+            Err(Error::SocketBroken(_))
+        ]
+    );
+    Some(is_right && wrote(&mut core, &FEATURES) && !device.owned)
 }
 
 /// Whether a frontend reads the features of the device and claims it, and the run goes on.

@@ -2,6 +2,7 @@
 
 ghost use Rattle.std.specs.Prelude.{◌≡◌, Bool, None, IfOk, IfErr};
 ghost use Rattle.vhost_joined.specs.declared.halt.Halt.TheVariants.{OutOfMemory};
+ghost use Rattle.vhost_device.specs.Reached.{by_trait};
 
 use crate::halt::{Halt, Stop};
 use crate::sides::Sides;
@@ -77,7 +78,7 @@ impl<D: VhostUserBackendReqHandlerMut<Link = MemLink>> Joined<D> {
     /// descriptor buffer that a message's descriptors took away, or of room for the answer of a call that makes some. In
     /// both cases nothing changed but that descriptor buffers may be there again.
     pub fn step(&mut self, call: &FrontendCall) -> Result<FrontendAnswer, Halt>
-        ensures step { Steps D.gives self.old (call_of call.now) result self.new }
+        ensures step { Steps (by_trait D.gives) self.old (call_of call.now) result self.new }
         ensures listed { IfOk result (λ answer. IsListedFor (call_of call.now) (answer_of answer)) }
         ensures ends { StopsAtEnd self.old self.new }
     {
@@ -100,7 +101,7 @@ impl<D: VhostUserBackendReqHandlerMut<Link = MemLink>> Joined<D> {
     ///
     /// `Halt::OutOfMemory`: also where `out` could not grow, before the first call.
     pub fn run(&mut self, calls: &[FrontendCall], out: &mut Vec<FrontendAnswer>) -> Result<(), Halt>
-        ensures { RunsCalls D.gives self.old calls.now out.old.items result out.new.items self.new }
+        ensures { RunsCalls (by_trait D.gives) self.old calls.now out.old.items result out.new.items self.new }
     {
         if out.reserve(calls.len()).is_err() {
             return Err(Halt::OutOfMemory);

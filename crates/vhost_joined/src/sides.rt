@@ -8,6 +8,7 @@ ghost use Rattle.vhost_joined.specs.Joined.{ends, is_over};
 ghost use Rattle.vhost_protocol.specs.Error.{seen_result};
 ghost use Rattle.vhost_protocol.specs.declared.asked.Awaited.TheVariants.{Nobody};
 ghost use Rattle.vhost_joined.specs.declared.halt.Stop.TheVariants.{Premise};
+ghost use Rattle.vhost_device.specs.Reached.{by_trait};
 
 use crate::begin::{new_asking, new_serving};
 use crate::halt::{Halt, Stop};
@@ -105,7 +106,7 @@ impl<D: VhostUserBackendReqHandlerMut<Link = MemLink>> Sides<D> {
     pub fn exchange(&mut self, call: &FrontendCall) -> std::result::Result<Exchanged, Halt>
         requires lists { HaveLists (parts_of self.old) }
         requires quiet { (parts_of self.old).awaited ≡ Nobody }
-        ensures done { Exchanges D.gives (call_of call.now) (parts_of self.old) result (parts_of self.new) }
+        ensures done { Exchanges (by_trait D.gives) (call_of call.now) (parts_of self.old) result (parts_of self.new) }
         ensures listed { IfOk result (λ done. IsListedFor (call_of call.now) (answer_of done.answer)) }
     {
         match ask(&mut self.frontend, call) {
@@ -150,7 +151,7 @@ impl<D: VhostUserBackendReqHandlerMut<Link = MemLink>> Sides<D> {
         requires last { IsAwaited sent self.old.frontend }
         requires awaited { MayAwait (call_of call.now) sent.awaited }
         requires kept { IsKeptFor (call_of call.now) sent.awaited sent.kept }
-        ensures served { Serves D.gives (call_of call.now) sent (parts_of self.old) result (parts_of self.new) }
+        ensures served { Serves (by_trait D.gives) (call_of call.now) sent (parts_of self.old) result (parts_of self.new) }
         ensures listed { IsListedFor (call_of call.now) (answer_of result.answer) }
     {
         copy(self.frontend.endpoint_mut(), &mut self.request);
@@ -169,7 +170,7 @@ impl<D: VhostUserBackendReqHandlerMut<Link = MemLink>> Sides<D> {
     /// allocation failed on the way.
     #[inline(never)]
     fn hand_over(&mut self) -> Option<Result<()>>
-        ensures handed { HandsOver D.gives (parts_of self.old) result (parts_of self.new) }
+        ensures handed { HandsOver (by_trait D.gives) (parts_of self.old) result (parts_of self.new) }
         ensures awaited { awaits self.new.frontend ≡ awaits self.old.frontend }
     {
         self.reply.clear();

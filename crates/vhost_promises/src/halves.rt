@@ -9,6 +9,7 @@ ghost use Rattle.vhost_frontend_core.specs.Frontend.{MayAsk};
 ghost use Rattle.vhost_frontend_req_handler.specs.Core.{endpoint_of as channel_of, server_in};
 ghost use Rattle.vhost_frontend_req_handler.specs.Handling.{HandlesOne as AnswersOne};
 ghost use Rattle.vhost_protocol.specs.FrontendCall as value;
+ghost use Rattle.vhost_device.specs.Reached.{by_trait};
 
 use vhost_backend_req_handler::{SessionCore, halves_law};
 use vhost_device::VhostUserBackendReqHandlerMut;
@@ -26,7 +27,7 @@ pub fn serves_by_halves<L: Link, D: VhostUserBackendReqHandlerMut<Link = L>>(
 ) -> Result<()>
     requires { is_some core.old.pending ≡ false }
     ensures { (session_in core.old).failed ≡ None
-        → HandlesOne L.event D.gives (λ h o. OpensAsBackend L.opens L.Handle.kinds (endpoint_of core.old).budget h o) (λ h o. OpensAsGpu L.opens L.Handle.kinds (endpoint_of core.old).budget h o) (endpoint_of core.old) (session_in core.old) device.old result (endpoint_of core.new) (session_in core.new) device.new }
+        → HandlesOne L.event (by_trait D.gives) (λ h o. OpensAsBackend L.opens L.Handle.kinds (endpoint_of core.old).budget h o) (λ h o. OpensAsGpu L.opens L.Handle.kinds (endpoint_of core.old).budget h o) (endpoint_of core.old) (session_in core.old) device.old result (endpoint_of core.new) (session_in core.new) device.new }
 {
     halves_law::<L, D>();
     match core.begin() {

@@ -9,6 +9,7 @@ ghost use Rattle.vhost_joined.specs.Text.{no_text};
 ghost use Rattle.vhost_promises.specs.Joined.{AnswersFresh, AnswersFreshBack, FailsAtOnce, WantsMemory};
 ghost use Rattle.vhost_protocol.specs.Ask.{Refuses, ask};
 ghost use Rattle.vhost_protocol.specs.Error.{Error};
+ghost use Rattle.vhost_device.specs.Reached.{by_trait};
 
 use std::alloc::Global;
 use vhost_device::VhostUserBackendReqHandlerMut;
@@ -34,10 +35,10 @@ pub fn runs_in_lockstep<D: VhostUserBackendReqHandlerMut<Link = MemLink>>(
     calls: &[FrontendCall],
     answers: &mut Vec<FrontendAnswer>,
 ) -> Result<(Joined<D>, Result<(), Halt>), Halt>
-    ensures run { IfOk result (λ kept. (bit : Bool) → Offers D.gives bit → ArePlain calls.now → kept.0.stopped ≢ Some Premise
-        → AnswersFresh D.gives max_queue_num device calls.now answers.old.items answers.new.items kept.0) }
-    ensures memory { IfOk result (λ kept. (bit : Bool) → Offers D.gives bit → ArePlain calls.now → scripts.0.items ≡ [] → scripts.1.items ≡ [] → kept.0.stopped ≡ Some Premise
-        → WantsMemory D.gives kept.0) }
+    ensures run { IfOk result (λ kept. (bit : Bool) → Offers (by_trait D.gives) bit → ArePlain calls.now → kept.0.stopped ≢ Some Premise
+        → AnswersFresh (by_trait D.gives) max_queue_num device calls.now answers.old.items answers.new.items kept.0) }
+    ensures memory { IfOk result (λ kept. (bit : Bool) → Offers (by_trait D.gives) bit → ArePlain calls.now → scripts.0.items ≡ [] → scripts.1.items ≡ [] → kept.0.stopped ≡ Some Premise
+        → WantsMemory (by_trait D.gives) kept.0) }
 {
     let mut joined = Joined::new(alloc, device, max_queue_num, budget, scripts)?;
     let ended = joined.run(calls, answers);
@@ -53,7 +54,7 @@ pub fn stays_in_step<D: VhostUserBackendReqHandlerMut<Link = MemLink>>(
     calls: &[FrontendCall],
 ) -> (Vec<FrontendAnswer>, Result<(), Halt>)
     ensures { (bit : Bool) → AreOffered bit calls.now result.0.items → IsReady bit joined.old → joined.old.stopped ≡ None → ArePlain calls.now
-        → Lockstep D.gives bit joined.old calls.now result.0.items joined.new }
+        → Lockstep (by_trait D.gives) bit joined.old calls.now result.0.items joined.new }
 {
     let mut answers = Vec::new(alloc);
     let ended = joined.run(calls, &mut answers);

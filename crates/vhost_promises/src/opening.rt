@@ -3,6 +3,7 @@
 ghost use Rattle.std.specs.Prelude.{◌≡◌, None, IfOk};
 ghost use Rattle.vhost_backend_req_handler.specs.Core.{endpoint_of, session_in};
 ghost use Rattle.vhost_promises.specs.Opening.{OpensItsOwn};
+ghost use Rattle.vhost_device.specs.Reached.{by_trait};
 
 use vhost_backend_req_handler::SessionCore;
 use vhost_device::VhostUserBackendReqHandlerMut;
@@ -15,7 +16,7 @@ pub fn opens_its_own<L: Link, D: VhostUserBackendReqHandlerMut<Link = L>>(
     core: &mut SessionCore<L>,
     device: &mut D,
 ) -> Result<()>
-    ensures { (session_in core.old).failed ≡ None → IfOk result (λ _. OpensItsOwn L.opens L.Handle.kinds D.gives L.event (session_in core.old) (endpoint_of core.old) device.old device.new) }
+    ensures { (session_in core.old).failed ≡ None → IfOk result (λ _. OpensItsOwn L.opens L.Handle.kinds (by_trait D.gives) L.event (session_in core.old) (endpoint_of core.old) device.old device.new) }
 {
     core.handle_request(device)
 }

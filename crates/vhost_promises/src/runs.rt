@@ -9,6 +9,7 @@ ghost use Rattle.vhost_frontend_req_handler.specs.Core.{endpoint_of as endpoint_
 ghost use Rattle.vhost_protocol.specs.declared.profile.Profile.TheVariants.{Standard};
 ghost use Rattle.vhost_promises.specs.Waiting.{AnswersWaiting};
 ghost use Rattle.vhost_promises.specs.Runs.{Unserved, WholeBack, WholeServed, answer_of_link};
+ghost use Rattle.vhost_device.specs.Reached.{by_trait};
 
 use std::alloc::Global;
 use vhost_backend_req_handler::SessionCore;
@@ -26,7 +27,7 @@ pub fn serves_whole<L: Link, D: VhostUserBackendReqHandlerMut<Link = L>>(
     count: usize,
 ) -> Result<Vec<Result<()>>>
     ensures { IfOk result (λ answers. list_any answer_of_link answers.items ≡ false →
-        WholeServed L.event D.gives (λ h o. OpensAsBackend L.opens L.Handle.kinds (endpoint_of core.old).budget h o) (λ h o. OpensAsGpu L.opens L.Handle.kinds (endpoint_of core.old).budget h o) (endpoint_of core.old) (session_in core.old) device.old count answers.items (endpoint_of core.new) (session_in core.new) device.new) }
+        WholeServed L.event (by_trait D.gives) (λ h o. OpensAsBackend L.opens L.Handle.kinds (endpoint_of core.old).budget h o) (λ h o. OpensAsGpu L.opens L.Handle.kinds (endpoint_of core.old).budget h o) (endpoint_of core.old) (session_in core.old) device.old count answers.items (endpoint_of core.new) (session_in core.new) device.new) }
 {
     let mut answers = Vec::new(alloc);
     core.run(count, device, &mut answers)?;

@@ -58,6 +58,16 @@ pub part-found : (rs : List GuestRegion) (k : ℕ) (r : GuestRegion) (a n m : �
     → Ok (record { addr = r.host_addr + (a - r.guest_addr); len = m }) ≡ translated_part rs a n
 part-found rs k r a n m p lt is h e = rw e (ap (λ (x : GuestRegion). Ok (part_in x a n)) is ∙ sym (part-at rs k r a n p lt h))
 
+-- .. and all of a range lies in the one region that has it
+pub whole-found : (rs : List GuestRegion) (k : ℕ) (r : GuestRegion) (a n : ℕ)
+    → AllPairs (λ r s. is_apart r s ≡ true) rs → k < length rs → r ≡ get_or rs k r → holds Guest (get_or rs k r) a n ≡ true → 0 < n
+    → translated_part rs a n ≡ Ok (record { addr = r.host_addr + (a - r.guest_addr); len = n })
+whole-found rs k r a n p lt is h some =
+    let held : holds Guest r a n ≡ true = rw is h in
+    let first : holds Guest r a 1 ≡ true = grind (arith, nat_tests) in
+    let all : n ≡ min n (r.size - (a - r.guest_addr)) = grind (arith, nat_tests) in
+    sym (part-found rs k r a n n p lt is (rw (← is) first) all)
+
 pub no_part : (rs : List GuestRegion) (a n : ℕ) → translated Guest rs a 1 ≡ Err NotInGuest → translated_part rs a n ≡ Err NotInGuest
 no_part [] a n e = refl
 no_part (r ∷ rs) a n e =

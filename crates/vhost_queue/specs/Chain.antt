@@ -1,5 +1,5 @@
 -- Chains of descriptors in a split queue: virtio 1.2, 2.7.5.
-use Rattle.std.specs.Prelude.{◌≡◌, ◌≤◌, ℕ, ◌+◌, ◌-◌, ◌*◌, Bool, true, false, not, ◌||◌, List, [], ◌∷◌, ◌<◌, ◌==◌, nat_lt, length, Option, Some, None, option_map, is_some, Result, Ok, Err, if◌then◌else◌, slice_index_or, slice_set, replicate, take, max}
+use Rattle.std.specs.Prelude.{◌≡◌, ◌≤◌, ℕ, ◌+◌, ◌-◌, ◌*◌, Bool, true, false, not, List, [], ◌∷◌, ◌<◌, ◌==◌, nat_lt, Option, Some, None, option_map, is_some, Result, Ok, Err, if◌then◌else◌, max}
 use Rattle.vhost_queue.specs.Memory.{translated, LiesIn}
 use Rattle.vhost_queue.specs.Segment.{goes_on, is_writable, is_indirect, segment_of, table_entries}
 use Rattle.vhost_queue.specs.declared.error.Error.{Error}

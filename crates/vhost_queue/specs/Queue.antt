@@ -1,6 +1,6 @@
 -- Where a device stands in a split queue, and what its steps make of it: virtio 1.2, 2.7.
-use Rattle.std.specs.Prelude.{ℕ, ◌≡◌, Bool, true, false, not, List, ◌==◌, nat_lt, Option, Some, None, Result, Ok, Err, if◌then◌else◌, is_some, slice_index_or, slice_set, replicate}
-use Rattle.vhost_queue.specs.Chain.{Following, begun, following, segment_limit, step}
+use Rattle.std.specs.Prelude.{ℕ, ◌≡◌, ◌+◌, ◌-◌, ◌%◌, ◌<◌, ◌++◌, min, Bool, true, false, not, List, [], length, option_to_list, ◌==◌, nat_lt, Option, Some, None, Result, Ok, Err, if◌then◌else◌, is_some, slice_index_or, slice_set, replicate}
+use Rattle.vhost_queue.specs.Chain.{Following, GoesOn, begun, following, segment_limit, step}
 use Rattle.vhost_queue.specs.Notification.{moved, next_index, previous_index, Passes}
 use Rattle.vhost_queue.specs.declared.descriptor.Descriptor.{Descriptor}
 use Rattle.vhost_queue.specs.declared.descriptor.Segment.{Segment}
@@ -60,6 +60,11 @@ told size s idx =
     else if nat_lt size (moved s.next_avail idx) then Err TooManyAvailable
     else Ok (record s { avail_idx = idx })
 
+-- how many entries of the available ring are to be read next, one behind the other: so many at most, up to the last one that is available, and up
+-- to the end of the ring
+abbrev pub entries_ahead : ℕ → State → ℕ → ℕ
+entries_ahead size s most = min (min most (moved s.next_avail s.avail_idx)) (size - s.next_avail % size)
+
 -- the chain of this head is the device's from now on
 abbrev pub taking : ℕ → State → ℕ → Result Following Error → Result State Error
 taking next s head (Ok chain) = Ok (record s { next_avail = next; out = slice_set s.out head true; chain = chain })
@@ -92,6 +97,17 @@ with_chain s (Err e) = Err e
 -- the next descriptor of the chain was read
 abbrev pub stepped : List GuestRegion → State → Descriptor → Result (Option Segment × State) Error
 stepped rs s d = if s.needs_reset then Err NeedsReset else with_chain s (step rs s.chain d)
+
+-- .. and is behind the chain as a whole: its bytes are one segment, or it names a table
+abbrev pub StepsWhole : List GuestRegion → Queue → Descriptor → Option Segment → Queue → Type 0
+StepsWhole rs q d o p =
+    (stepped rs (state q) d ≡ Ok (o, state p)) × GoesOn rs (state q).chain o (state p).chain × ((state p).chain.rest ≡ None)
+
+-- what the first of these descriptors make of a queue, each of which is behind the chain as a whole: how many they are, and which segments
+pub data Runs (rs : List GuestRegion) (copies : List Descriptor) (old : Queue) : ℕ → List Segment → Queue → Type 0 where
+  stays : Runs rs copies old 0 [] old
+  steps_on : {at : ℕ} {xs : List Segment} {was now : Queue} → Runs rs copies old at xs was → (o : Option Segment) → at < length copies
+      → ((d : Descriptor) → StepsWhole rs was (slice_index_or copies at d) o now) → Runs rs copies old (at + 1) (xs ++ option_to_list o) now
 
 -- the device is done with the chain of this head
 abbrev pub used : State → ℕ → Result State Error

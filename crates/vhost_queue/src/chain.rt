@@ -6,7 +6,7 @@ ghost use Rattle.std.specs.Option.{ForSome};
 use crate::descriptor::{DESCRIPTOR_SIZE, Descriptor, Segment};
 use crate::error::{Error, Result};
 use crate::memory::{AddressSpace, GuestMemory, HostRange};
-use crate::segment::{INDIRECT, NEXT, WRITE, segment_of};
+use crate::segment::{INDIRECT, NEXT, WRITE, segment_of, whole_segment_of};
 use crate::table::table_entries;
 
 // How many times the descriptors of a chain go on in another region: as many borders lie between the regions that there may be.
@@ -42,7 +42,8 @@ impl DescriptorChain {
     ghost use Rattle.vhost_queue.specs.Chain.{after, begun, following, gone_on, split, table_of, Begins, GoesOn, IsPart, limit_of, nested, next_of, next_value, place_of, rest_of, step};
     ghost use Rattle.vhost_queue.specs.Places.{at, Within};
     ghost use Rattle.vhost_queue.specs.Segment.{is_writable};
-    ghost use Rattle.std.specs.Prelude.{IfSome, IsSome, is_some};
+    ghost use Rattle.std.specs.Bool.{OnFalse, OnTrue};
+    ghost use Rattle.std.specs.Prelude.{IfNone, IfSome, IsSome, is_some};
 
     /// No chain yet. Each will have at most so many descriptors with bytes.
     pub fn new(limit: u16) -> DescriptorChain
@@ -173,6 +174,57 @@ impl DescriptorChain {
         let segment = segment_of(memory, self.writing, addr, len, flags)?;
         self.go_on(descriptor, segment.range.len)?;
         Ok(Some(segment))
+    }
+
+    /// The next descriptor has this value, which is as most are: it names no table, and all of its bytes lie in one region. Its segment.
+    /// None: it is not, nothing changes, and `step` says what it is.
+    pub(crate) fn pass(
+        &mut self,
+        memory: &mut GuestMemory,
+        descriptor: Descriptor,
+    ) -> Option<Segment>
+        ensures some { IfSome result (λ segment. step memory.old.regions.items (following self.old) descriptor ≡ Ok (Some segment, following self.new)) }
+        ensures goes_on { IfSome result (λ segment. GoesOn memory.old.regions.items (following self.old) (Some segment) (following self.new)) }
+        ensures whole { IfSome result (λ _. (following self.new).rest ≡ None) }
+        ensures kept { IfNone result (self.new ≡ self.old) }
+        ensures limit { limit_of self.new ≡ limit_of self.old }
+        ensures memory { memory.new.regions.items ≡ memory.old.regions.items }
+    {
+        let Descriptor {
+            addr,
+            len,
+            flags,
+            next: _,
+        } = descriptor;
+        if flags & INDIRECT != 0 || self.rest.is_some() || self.next.is_none() {
+            return None;
+        }
+        let Ok(next) = self.next_of(descriptor) else {
+            return None;
+        };
+        let Some(segment) = whole_segment_of(memory, self.writing, addr, len, flags) else {
+            return None;
+        };
+        self.next = next;
+        self.left -= 1;
+        self.writing = flags & WRITE != 0;
+        Some(segment)
+    }
+
+    /// The next descriptor has this value, and names an indirect table, in which the chain goes on. False: it does not, nothing changes, and
+    /// `step` says what it is.
+    pub(crate) fn nest(&mut self, memory: &mut GuestMemory, descriptor: Descriptor) -> bool
+        ensures some { OnTrue result (step memory.old.regions.items (following self.old) descriptor ≡ Ok (None, following self.new)) }
+        ensures goes_on { OnTrue result (GoesOn memory.old.regions.items (following self.old) None (following self.new)) }
+        ensures whole { OnTrue result ((following self.new).rest ≡ None) }
+        ensures kept { OnFalse result (self.new ≡ self.old) }
+        ensures limit { limit_of self.new ≡ limit_of self.old }
+        ensures memory { memory.new.regions.items ≡ memory.old.regions.items }
+    {
+        if descriptor.flags & INDIRECT == 0 || self.rest.is_some() || self.next.is_none() {
+            return false;
+        }
+        self.enter(memory, descriptor).is_ok()
     }
 
     // The chain goes on in the indirect table that this descriptor names.

@@ -87,10 +87,12 @@ fn are_apart(a: u64, n: u64, b: u64, m: u64) -> bool
     (n <= b && a <= b - n) || (m <= a && b <= a - m)
 }
 
-/// The regions of a session. A look-up begins with the region that had the last range.
+/// The regions of a session. A look-up begins with the region that had the last range. The places of the regions in the order of their
+/// guest addresses say only where to look first for one of the guest's: what is found there is looked at, so no promise rests on them.
 #[derive(Drop)]
 pub struct GuestMemory {
     regions: Vec<GuestRegion>,
+    order: Vec<u16>,
     last: usize,
     ghost valid: { All (λ r. is_region r ≡ true) regions.items },
     ghost apart: { AllPairs (λ r s. is_apart r s ≡ true) regions.items },
@@ -98,15 +100,17 @@ pub struct GuestMemory {
 }
 
 impl GuestMemory {
-    ghost use Rattle.std.specs.Prelude.{remove, Err, IfErr};
+    ghost use Rattle.std.specs.Prelude.{remove, Err, IfErr, Ok};
+    ghost use Rattle.vhost_queue.specs.declared.memory.AddressSpace.TheVariants.{Guest};
     ghost use Rattle.vhost_queue.specs.declared.memory.GuestRegion.{GuestRegion};
-    ghost use Rattle.vhost_queue.specs.declared.error.Error.TheVariants.{NoSuchRegion, NotInGuest};
+    ghost use Rattle.vhost_queue.specs.declared.error.Error.TheVariants.{NoSuchRegion, NotInGuest, OutOfMemory};
 
     pub fn new(alloc: Global) -> GuestMemory
         ensures { result.regions.items ≡ [] }
     {
         GuestMemory {
             regions: Vec::new(alloc),
+            order: Vec::new(alloc),
             last: 0,
         }
     }
@@ -129,7 +133,35 @@ impl GuestMemory {
         if self.overlaps(&region) {
             return Err(Error::RegionOverlap);
         }
+        let rank = self.rank(region.guest_addr);
+        let at = self.regions.len() as u16;
+        if self.order.insert(rank, at).is_err() {
+            return Err(Error::OutOfMemory);
+        }
         self.regions.push(region).map_err(|_| Error::OutOfMemory)
+    }
+
+    // How many places come before those of the regions that begin above this address of the guest's.
+    fn rank(&self, addr: u64) -> usize
+        ensures { result ≤ length self.now.order.items }
+    {
+        let mut low = 0usize;
+        let mut high = self.order.len();
+        while low < high {
+            let middle = low + (high - low) / 2;
+            if self.begins_by(self.order[middle], addr) {
+                low = middle + 1;
+            } else {
+                high = middle;
+            }
+        }
+        low
+    }
+
+    // Whether the region at this place begins at an address of the guest's, or below.
+    fn begins_by(&self, at: u16, addr: u64) -> bool {
+        let at = usize::from(at);
+        at < self.regions.len() && self.regions[at].guest_addr <= addr
     }
 
     /// The region of these addresses and this size goes. NoSuchRegion: there is none, and nothing changes.
@@ -142,7 +174,23 @@ impl GuestMemory {
             return Err(Error::NoSuchRegion);
         };
         let _gone = self.regions.remove(at);
+        self.close_up(at);
         Ok(())
+    }
+
+    // The region at this place is gone, and those behind it are one place lower.
+    fn close_up(&mut self, gone: usize)
+        ensures regions { self.new.regions ≡ self.old.regions }
+    {
+        let mut kept = 0usize;
+        for index in 0..self.order.len() {
+            let at = self.order[index];
+            if usize::from(at) != gone {
+                self.order[kept] = if usize::from(at) > gone { at - 1 } else { at };
+                kept += 1;
+            }
+        }
+        self.order.truncate(kept);
     }
 
     // Which region has these addresses and this size.
@@ -189,13 +237,42 @@ impl GuestMemory {
         false
     }
 
-    // A region that has all of the range: the last one that was found, or else the first.
+    // The region that begins last at this address of the guest's, or below: no other can have it.
+    fn below(&self, addr: u64) -> Option<usize> {
+        let rank = self.rank(addr);
+        if rank == 0 {
+            return None;
+        }
+        Some(usize::from(self.order[rank - 1]))
+    }
+
+    // Whether there is a region at this place that has all of the range.
+    fn has(&self, at: usize, space: AddressSpace, addr: u64, len: u64) -> bool
+        ensures { OnTrue result ((at < length self.now.regions.items) × ((d : GuestRegion) → holds space (slice_index_or self.now.regions.items at d) addr len ≡ true)) }
+    {
+        at < self.regions.len() && self.regions[at].holds(space, addr, len)
+    }
+
+    // A region that has all of the range: the last one that was found, or else another.
     fn region_of(&self, space: AddressSpace, addr: u64, len: u64) -> Option<usize>
         ensures some { IfSome result (λ at. (at < length self.now.regions.items) × ((d : GuestRegion) → holds space (slice_index_or self.now.regions.items at d) addr len ≡ true)) }
         ensures none { IfNone result (translated space self.now.regions.items addr len ≡ Err NotInGuest) }
     {
-        if self.last < self.regions.len() && self.regions[self.last].holds(space, addr, len) {
+        if self.has(self.last, space, addr, len) {
             return Some(self.last);
+        }
+        self.find(space, addr, len)
+    }
+
+    // A region that has all of the range: that which a search finds, or else the first.
+    fn find(&self, space: AddressSpace, addr: u64, len: u64) -> Option<usize>
+        ensures some { IfSome result (λ at. (at < length self.now.regions.items) × ((d : GuestRegion) → holds space (slice_index_or self.now.regions.items at d) addr len ≡ true)) }
+        ensures none { IfNone result (translated space self.now.regions.items addr len ≡ Err NotInGuest) }
+    {
+        if let Some(at) = self.below(addr)
+            && self.has(at, space, addr, len)
+        {
+            return Some(at);
         }
         for (at, region) in self.regions.iter().enumerate() {
             if region.holds(space, addr, len) {
@@ -245,5 +322,38 @@ impl GuestMemory {
             addr: region.host_addr + offset,
             len: len.min(region.size - offset),
         })
+    }
+    /// Where all of a range of the guest's is mapped, if it lies in one region. None: `translate_part` says what lies where.
+    pub(crate) fn translate_whole(&mut self, addr: u64, len: u64) -> Option<HostRange>
+        requires { 0 < len }
+        ensures exact { IfSome result (λ range. translated_part self.old.regions.items addr len ≡ Ok range) }
+        ensures len { IfSome result (λ range. range.len ≡ len) }
+        ensures inside { IfSome result (λ range. LiesIn self.old.regions.items range) }
+        ensures kept { self.new.regions.items ≡ self.old.regions.items }
+    {
+        if self.has(self.last, AddressSpace::Guest, addr, len) {
+            return Some(self.mapped(self.last, addr, len));
+        }
+        let Some(at) = self.find(AddressSpace::Guest, addr, len) else {
+            return None;
+        };
+        self.last = at;
+        Some(self.mapped(at, addr, len))
+    }
+
+    // Where a range of the guest's is mapped that the region at this place has.
+    fn mapped(&self, at: usize, addr: u64, len: u64) -> HostRange
+        requires some { 0 < len }
+        requires within { at < length self.now.regions.items }
+        requires holds { (d : GuestRegion) → holds Guest (slice_index_or self.now.regions.items at d) addr len ≡ true }
+        ensures exact { translated_part self.now.regions.items addr len ≡ Ok result }
+        ensures len { result.len ≡ len }
+        ensures inside { LiesIn self.now.regions.items result }
+    {
+        let region = self.regions[at];
+        HostRange {
+            addr: region.host_addr + (addr - region.guest_addr),
+            len,
+        }
     }
 }

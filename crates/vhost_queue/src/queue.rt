@@ -70,11 +70,12 @@ pub struct Queue {
 }
 
 impl Queue {
-    ghost use Rattle.std.specs.Prelude.{◌%◌, bit_and, if◌then◌else◌, slice_index_or, slice_set, IsSome, IfSome};
+    ghost use Rattle.std.specs.Bool.{OnFalse, OnTrue};
+    ghost use Rattle.std.specs.Prelude.{◌%◌, bit_and, if◌then◌else◌, slice_index_or, slice_set, IsSome, IfNone, IfSome};
     ghost use Rattle.vhost_queue.specs.Chain.{following, place_of, table_of, Begins, GoesOn};
     ghost use Rattle.vhost_queue.specs.Memory.{LiesIn};
     ghost use Rattle.vhost_queue.specs.declared.error.Error.TheVariants.{InvalidSize, OutOfMemory};
-    ghost use Rattle.vhost_queue.specs.Queue.{IsNew, IsSameQueue, state, adopted, broken, given_back, refused_pop, refused_step, told, popped, resubmitted, stepped, taken, used, IsToldOf};
+    ghost use Rattle.vhost_queue.specs.Queue.{IsNew, IsSameQueue, state, adopted, broken, entries_ahead, given_back, refused_pop, refused_step, told, popped, resubmitted, stepped, taken, used, IsToldOf, StepsWhole};
     ghost use Rattle.vhost_queue.specs.Rings.{table_range, avail_range, used_range};
     ghost use Rattle.vhost_queue.specs.Places.{at, Within};
 
@@ -179,6 +180,23 @@ impl Queue {
             return None;
         }
         Some(self.rings.avail_entry_place(self.next_avail))
+    }
+
+    /// The entries of the available ring that are to be read next, one behind the other, if one is available: so many at most, up to the
+    /// last one that is available, and up to the end of the ring.
+    pub fn avail_entries_place(&self, most: usize) -> Option<HostRange>
+        ensures some { IsSome result ↔ ((state self.now).next_avail ≢ (state self.now).avail_idx) }
+        ensures within { IfSome result (λ place. Within (avail_range self.now.rings) place) }
+        ensures exact { IfSome result (λ place. place ≡ at (self.now.rings.avail_ring + 4 + 2 * ((state self.now).next_avail % self.now.rings.size)) (2 * entries_ahead self.now.rings.size (state self.now) most)) }
+    {
+        if self.next_avail == self.avail_idx {
+            return None;
+        }
+        let available = usize::from(self.avail_idx.wrapping_sub(self.next_avail));
+        Some(
+            self.rings
+                .avail_entries_place(self.next_avail, most.min(available)),
+        )
     }
 
     /// The next entry of the available ring was read as this head: its chain is the device's from now on, and is followed.
@@ -327,6 +345,35 @@ impl Queue {
             self.needs_reset = true;
         }
         stepped
+    }
+
+    /// The next descriptor was read as this, which is as most are: it names no table, and all of its bytes lie in one region. Its segment.
+    /// None: it is not, nothing changes, and `step` says what it is.
+    pub(crate) fn pass(
+        &mut self,
+        memory: &mut GuestMemory,
+        descriptor: Descriptor,
+    ) -> Option<Segment>
+        ensures some { IfSome result (λ segment. StepsWhole memory.old.regions.items self.old descriptor (Some segment) self.new) }
+        ensures kept { IfNone result (self.new ≡ self.old) }
+        ensures rings { IsSameQueue self.old self.new }
+        ensures memory { memory.new.regions.items ≡ memory.old.regions.items }
+    {
+        if self.needs_reset {
+            return None;
+        }
+        self.chain.pass(memory, descriptor)
+    }
+
+    /// The next descriptor was read as this, and names an indirect table, in which the chain goes on. False: it does not, nothing changes, and
+    /// `step` says what it is.
+    pub(crate) fn nest(&mut self, memory: &mut GuestMemory, descriptor: Descriptor) -> bool
+        ensures some { OnTrue result (StepsWhole memory.old.regions.items self.old descriptor None self.new) }
+        ensures kept { OnFalse result (self.new ≡ self.old) }
+        ensures rings { IsSameQueue self.old self.new }
+        ensures memory { memory.new.regions.items ≡ memory.old.regions.items }
+    {
+        !self.needs_reset && self.chain.nest(memory, descriptor)
     }
 
     /// The device is done with the chain of this head, and wrote so many bytes: what is to be written. NotHandedOut: it has no

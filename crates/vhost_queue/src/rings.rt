@@ -1,6 +1,6 @@
 //! Where the three parts of a split queue are mapped.
 
-ghost use Rattle.std.specs.Prelude.{◌≡◌, ◌+◌, ◌*◌, ◌%◌, ◌^◌, ◌<◌, ◌≤◌, IfOk, true};
+ghost use Rattle.std.specs.Prelude.{◌≡◌, ◌+◌, ◌-◌, ◌*◌, ◌%◌, ◌^◌, ◌<◌, ◌≤◌, IfOk, min, true};
 ghost use Rattle.std.specs.Int.{is_power_of_two};
 
 use crate::descriptor::DESCRIPTOR_SIZE;
@@ -100,6 +100,16 @@ impl Rings {
         ensures within { Within (avail_range self.now) result }
     {
         range(self.avail_ring + 4 + 2 * u64::from(index % self.size), 2)
+    }
+
+    /// The entries of the available ring from an index on, one behind the other: so many at most, up to the end of the ring.
+    pub fn avail_entries_place(&self, index: u16, most: usize) -> HostRange
+        ensures exact { result ≡ at (self.now.avail_ring + 4 + 2 * (index % self.now.size)) (2 * min most (self.now.size - index % self.now.size)) }
+        ensures within { Within (avail_range self.now) result }
+    {
+        let first = index % self.size;
+        let count = most.min(usize::from(self.size - first));
+        range(self.avail_ring + 4 + 2 * u64::from(first), 2 * count as u64)
     }
 
     /// The index at which the driver wants to be told.

@@ -1,6 +1,6 @@
 //! What one descriptor makes of a chain, in both kinds of queue.
 
-ghost use Rattle.std.specs.Prelude.{◌≡◌, ◌+◌, ◌^◌, ◌<◌, ◌≤◌, true, IfOk};
+ghost use Rattle.std.specs.Prelude.{◌≡◌, ◌+◌, ◌^◌, ◌<◌, ◌≤◌, true, IfOk, IfSome, Ok};
 ghost use Rattle.vhost_queue.specs.Memory.{LiesIn};
 ghost use Rattle.vhost_queue.specs.Segment.{is_writable, segment_of};
 
@@ -42,6 +42,35 @@ pub(crate) fn segment_of(
     }
     let range = memory.translate_part(addr, u64::from(len))?;
     Ok(Segment {
+        range,
+        guest_addr: addr,
+        writable,
+    })
+}
+
+/// The segment of a descriptor whose bytes all lie in one region. None: `segment_of` says what it is.
+pub(crate) fn whole_segment_of(
+    memory: &mut GuestMemory,
+    writing: bool,
+    addr: u64,
+    len: u32,
+    flags: u16,
+) -> Option<Segment>
+    ensures exact { IfSome result (λ s. segment_of memory.old.regions.items writing addr len flags ≡ Ok s) }
+    ensures whole { IfSome result (λ s. s.range.len ≡ len) }
+    ensures inside { IfSome result (λ s. LiesIn memory.old.regions.items s.range) }
+    ensures ordered { IfSome result (λ s. writing ≡ true → s.writable ≡ true) }
+    ensures writable { IfSome result (λ s. s.writable ≡ is_writable flags) }
+    ensures memory { memory.new.regions.items ≡ memory.old.regions.items }
+{
+    let writable = flags & WRITE != 0;
+    if (writing && !writable) || len == 0 {
+        return None;
+    }
+    let Some(range) = memory.translate_whole(addr, u64::from(len)) else {
+        return None;
+    };
+    Some(Segment {
         range,
         guest_addr: addr,
         writable,

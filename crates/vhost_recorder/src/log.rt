@@ -1,6 +1,7 @@
 //! The log of a recorder that was closed.
 
 ghost use Rattle.std.specs.Prelude.{◌≡◌, ◌↔◌, IsTrue, Contains};
+ghost use Rattle.vhost_device.specs.Reached.{by_trait};
 
 use crate::entry::Entry;
 use crate::recorded::{Receipt, Recorded};
@@ -35,7 +36,7 @@ impl<D: VhostUserBackendReqHandlerMut<Link = MemLink>> Log<D> {
     /// The entries, in the order in which the calls were done. The log is legal.
     pub fn entries(&self) -> &[Entry]
         ensures entries { result.now ≡ self.now.entries }
-        ensures legal { HasLegalLog D.gives self.now }
+        ensures legal { HasLegalLog (by_trait D.gives) self.now }
     {
         self.recorded.entries()
     }

@@ -5,6 +5,7 @@ ghost use Rattle.vhost_frontend_core.specs.Values.{call_of, answer_of};
 ghost use Rattle.vhost_joined.specs.declared.halt.Halt.TheVariants.{OutOfMemory};
 ghost use Rattle.vhost_protocol.specs.Log.{calls_of};
 ghost use Rattle.vhost_recorder.specs.Prepared.{IsPreparedFor};
+ghost use Rattle.vhost_device.specs.Reached.{by_trait};
 
 use crate::copying::{Room, copy_answer, copy_call};
 use crate::entry::Entry;
@@ -79,13 +80,14 @@ pub struct Recorded<D: VhostUserBackendReqHandlerMut<Link = MemLink>> {
 
 impl<D: VhostUserBackendReqHandlerMut<Link = MemLink>> Model for Recorded<D> {
     ghost use Rattle.vhost_recorder.specs.Recording.{Recording};
+    ghost use Rattle.vhost_device.specs.Reached.{by_trait};
     ghost use Rattle.vhost_recorder.specs.Kept.{IsKept};
 
     ghost Value = { Recording D };
 
     ghost view = { λ r. record { joined = r.joined; entries = r.log.items; queues = r.queues } };
 
-    ghost invariant = { λ r. IsKept D.gives (record { joined = r.joined; entries = r.log.items; queues = r.queues }) };
+    ghost invariant = { λ r. IsKept (by_trait D.gives) (record { joined = r.joined; entries = r.log.items; queues = r.queues }) };
 }
 
 impl<D: VhostUserBackendReqHandlerMut<Link = MemLink>> Recorded<D> {
@@ -121,7 +123,7 @@ impl<D: VhostUserBackendReqHandlerMut<Link = MemLink>> Recorded<D> {
     /// `Halt::Stopped`: the run has stopped before. `Halt::OutOfMemory`: an allocation failed before the first byte, also one
     /// for the entry or its copy. In both cases nothing changed but that descriptor buffers may be there again.
     pub fn step(&mut self, caller: u32, call: &FrontendCall) -> Result<Receipt, Halt>
-        ensures { Records D.gives self.old caller (call_of call.now) result self.new }
+        ensures { Records (by_trait D.gives) self.old caller (call_of call.now) result self.new }
     {
         if self.joined.stopped().is_some() {
             return Err(Halt::Stopped);
@@ -156,7 +158,7 @@ impl<D: VhostUserBackendReqHandlerMut<Link = MemLink>> Recorded<D> {
     /// The log, which is legal.
     pub fn entries(&self) -> &[Entry]
         ensures entries { result.now ≡ self.now.entries }
-        ensures legal { HasLegalLog D.gives self.now }
+        ensures legal { HasLegalLog (by_trait D.gives) self.now }
     {
         &self.log
     }

@@ -1,4 +1,4 @@
-//! Gates that end sessions, and that hold one. What else a daemon does at a socket, ./test-daemon shows.
+//! Gates that end sessions, and that hold one. What else a daemon does at a socket, `./test daemon` shows.
 
 use std::io::{Read, Write};
 use std::net::Net;

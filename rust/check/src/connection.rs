@@ -20,6 +20,14 @@ const STEP: i32 = 20;
 /// How a stream ends that does not fail.
 const END: &str = "the end of its stream";
 
+/// Features that a case accepts only where it is about them: some change what other requests mean, and with others a backend may await
+/// requests that most cases do not make.
+const UNUSUAL: Feature = Feature::XEN_MMAP
+    .union(Feature::INBAND_NOTIFICATIONS)
+    .union(Feature::GPA_ADDRESSES)
+    .union(Feature::INFLIGHT_SHMFD)
+    .union(Feature::GET_VRING_BASE_INFLIGHT);
+
 /// Why a case ended before its last step.
 #[derive(Debug)]
 pub enum Stop {
@@ -114,6 +122,8 @@ impl Memory {
 pub struct Terms {
     /// Protocol features that are not accepted.
     pub without: Feature,
+    /// Those that are accepted here, and by few other cases.
+    pub with: Feature,
     /// In place of the virtio features that are offered.
     pub features: Option<u64>,
     /// Whether SET_OWNER is left out.
@@ -122,7 +132,7 @@ pub struct Terms {
 
 impl Default for Terms {
     fn default() -> Self {
-        Terms { without: Feature::empty(), features: None, no_owner: false }
+        Terms { without: Feature::empty(), with: Feature::empty(), features: None, no_owner: false }
     }
 }
 
@@ -146,13 +156,27 @@ pub struct Connection {
     pub protocol_offered: u64,
     pub protocol: u64,
     pub memory: Option<Rc<Memory>>,
+    /// The address of the guest's memory from which those of rings count.
+    pub rings_from: u64,
 }
 
 impl Connection {
     pub fn new(socket: UnixStream, limit: Duration, trace: Trace) -> Self {
         let (process, session) = (peer_of(&socket), trace.connect());
         let (offered, accepted, protocol_offered, protocol) = (0, 0, 0, 0);
-        Connection { socket, process, limit, trace, session, offered, accepted, protocol_offered, protocol, memory: None }
+        Connection {
+            socket,
+            process,
+            limit,
+            trace,
+            session,
+            offered,
+            accepted,
+            protocol_offered,
+            protocol,
+            memory: None,
+            rings_from: USER,
+        }
     }
 
     /// Sends bytes as they are.
@@ -328,7 +352,7 @@ impl Connection {
         }
         if self.offered & PROTOCOL_FEATURES != 0 {
             self.protocol_offered = self.number(Request::GET_PROTOCOL_FEATURES)?;
-            let out = Feature::XEN_MMAP | Feature::INBAND_NOTIFICATIONS | Feature::GPA_ADDRESSES | terms.without;
+            let out = UNUSUAL.difference(terms.with) | terms.without;
             self.protocol = self.protocol_offered & !out.bits();
             self.send(Request::SET_PROTOCOL_FEATURES, &u64s(&[self.protocol]), &[])?;
         }

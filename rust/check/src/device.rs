@@ -26,7 +26,8 @@ pub enum Kind {
     Vsock,
 }
 
-/// A kind, how it is called, how many rings it has, and which of them is driven.
+/// A kind, how it is called, how many rings frontends give it, and which of them is driven. A socket device's third ring, for events, is the
+/// frontend's own.
 const KINDS: &[(Kind, &str, u32, u32)] = &[
     (Kind::Block, "blk", 1, 0),
     (Kind::Console, "console", 2, 1),
@@ -34,7 +35,7 @@ const KINDS: &[(Kind, &str, u32, u32)] = &[
     (Kind::Files, "fs", 2, 1),
     (Kind::Graphics, "gpu", 2, 0),
     (Kind::Net, "net", 2, 1),
-    (Kind::Vsock, "vsock", 3, 1),
+    (Kind::Vsock, "vsock", 2, 1),
 ];
 
 impl fmt::Display for Kind {

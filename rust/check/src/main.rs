@@ -93,7 +93,7 @@ fn list() -> Result<u8, Failure> {
 fn explain(id: &str) -> Result<u8, Failure> {
     let rows = table::rows();
     let row = rows.iter().find(|it| it.id == id).ok_or_else(|| Failure(REFUSED, format!("no case {id}: --list has them")))?;
-    say(&report::explanation_of(row, row.is_of_frontend || programmed().contains_key(id)))
+    say(&report::explanation_of(row, cases::UNPROGRAMMED.iter().find(|it| it.0 == id).map(|it| it.1)))
 }
 
 /// The cases that are to be tried, in the table's order.
@@ -225,6 +225,10 @@ mod tests {
             assert!(rows.contains(case.0), "{} has no row", case.0);
             assert!(seen.insert(case.0), "{} is there twice", case.0);
         }
-        assert!(seen.len() >= 250, "{} cases", seen.len());
+        // (what is not programmed says why)
+        for (id, reason) in cases::UNPROGRAMMED {
+            assert!(rows.contains(id) && seen.insert(id) && !reason.is_empty(), "{id}");
+        }
+        assert_eq!(seen, rows);
     }
 }

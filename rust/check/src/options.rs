@@ -24,11 +24,13 @@ the socket's path in the place of %s. A line is a case: its number, its verdict,
   --expect=FILE   known verdicts, a case and its verdict a line: they are no faults, so that a run fails by new ones
   --junit=FILE    the report for a test runner; --json=FILE for other programs; --html=FILE as a page
   --record=DIR    a recording of each case that did not pass, DIR/ID.jsonl, which covretin-tap --replay shows
-  --image=FILE    the file of a disk, to see in it what was written
+  --image=FILE    the file of a disk, to see in it what was written; it grows for a while, and is as great as before in the end
   --limit=SECONDS how long nothing may happen before a reply is missing (2)
   --as-root       runs as root as well
   --list          all cases, by lines of seven columns; 'todo' in the last is not programmed
   --explain ID    what a case does, and the sentence of the specification
+  --version, --help
+                  prints the version, or this
 
 Verdicts: PASS; MUST and SHOULD, where a sentence of the specification is not kept; NOTE, where there is none, but peers notice; CRASH,
 HANG; SKIP, where nothing is to be tried; TROUBLE of the checker itself.

@@ -31,13 +31,14 @@ pub fn summary_of(outcomes: &[Outcome], strict: bool) -> String {
 }
 
 /// What --explain prints of a case.
-pub fn explanation_of(row: &Row, is_programmed: bool) -> String {
+pub fn explanation_of(row: &Row, reason: Option<&str>) -> String {
     let sentence = match row.sentence {
         "" => "The specification has no sentence on this.".to_string(),
         text if text.starts_with('(') => text.to_string(),
         text => format!("\"{text}\""),
     };
-    let more = if is_programmed { "" } else { "\nThis case is not programmed yet: it is not tried, and not counted." };
+    let more =
+        reason.map_or(String::new(), |it| format!("\nThis case is not programmed, is not tried, and is not counted: {it}."));
     format!(
         "{} {}\n\nSection:   {}\nIs tried:  {}\nExpected:  {}\n\n{sentence}{more}",
         row.id, row.level, row.section, row.provoked, row.expected

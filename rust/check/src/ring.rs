@@ -41,6 +41,8 @@ impl Buffer {
 pub struct Ring {
     pub index: u32,
     pub memory: Rc<Memory>,
+    /// The address of the memory from which those of the ring count.
+    pub from: u64,
     pub descriptors: u64,
     pub available: u64,
     pub used: u64,
@@ -55,19 +57,19 @@ impl Ring {
     /// A ring in memory that the backend has been given.
     pub fn new(connection: &Connection, index: u32) -> Result<Self, Stop> {
         let memory = connection.memory.clone().ok_or_else(|| Stop::Trouble("no memory".to_string()))?;
-        Ring::in_memory(memory, index)
+        Ok(Ring { from: connection.rings_from, ..Ring::in_memory(memory, index)? })
     }
 
     pub fn in_memory(memory: Rc<Memory>, index: u32) -> Result<Self, Stop> {
         let base = FIRST + u64::from(index) * STRIDE;
         let [kick, call, error] = [event()?, event()?, event()?];
         let [descriptors, available, used] = [base, base + 0x1000, base + 0x2000];
-        Ok(Ring { index, memory, descriptors, available, used, next: 0, kick, call, error })
+        Ok(Ring { index, memory, from: USER, descriptors, available, used, next: 0, kick, call, error })
     }
 
     /// The body that says where the ring lies.
     pub fn addresses(&self, flags: u32, log: u64) -> Vec<u8> {
-        let places = [self.descriptors, self.used, self.available].map(|it| USER + it);
+        let places = [self.descriptors, self.used, self.available].map(|it| self.from + it);
         joined(&[&u32s(&[self.index, flags]), &u64s(&places), &u64s(&[log])])
     }
 

@@ -11,7 +11,7 @@ use crate::target::{Health, Target};
 use crate::trace::Went;
 
 /// How often a case has to fail before it is called so.
-const TRIES: u32 = 3;
+pub const TRIES: u32 = 3;
 /// How often a connection that ends before its first reply is made again: some programs listen anew after each.
 const RESETS: u32 = 4;
 

@@ -7,6 +7,7 @@ use std::os::unix::net::UnixStream;
 use std::os::unix::process::CommandExt;
 use std::process::Command;
 use std::ptr::{null_mut, read_volatile, write_volatile};
+use std::sync::atomic::{fence, AtomicU8, Ordering};
 
 /// The most descriptors that a message brings here.
 const MOST_DESCRIPTORS: usize = 64;
@@ -119,17 +120,25 @@ impl Mapping {
         assert!(offset as usize + 2 <= self.size && offset % 2 == 0);
         // SAFETY: it is inside, and aligned.
         let value = unsafe { read_volatile(self.at.add(offset as usize).cast::<u16>()) };
-        std::sync::atomic::fence(std::sync::atomic::Ordering::Acquire);
+        fence(Ordering::Acquire);
         u16::from_le(value)
+    }
+
+    /// Puts another byte there, in one step: the one that was there.
+    pub fn swap(&self, offset: u64, byte: u8) -> u8 {
+        assert!((offset as usize) < self.size);
+        // SAFETY: it is inside; whoever shares the memory may change it at any time, and this is one step.
+        let place = unsafe { &*self.at.add(offset as usize).cast::<AtomicU8>() };
+        place.swap(byte, Ordering::SeqCst)
     }
 
     /// Writes a number as one, after all that was written before.
     pub fn write_u16(&self, offset: u64, value: u16) {
         assert!(offset as usize + 2 <= self.size && offset % 2 == 0);
-        std::sync::atomic::fence(std::sync::atomic::Ordering::SeqCst);
+        fence(Ordering::SeqCst);
         // SAFETY: it is inside, and aligned.
         unsafe { write_volatile(self.at.add(offset as usize).cast::<u16>(), value.to_le()) };
-        std::sync::atomic::fence(std::sync::atomic::Ordering::SeqCst);
+        fence(Ordering::SeqCst);
     }
 }
 
@@ -256,6 +265,44 @@ pub fn give_page(descriptor: &impl AsRawFd, address: u64) {
     let mut copy = [address & !(PAGE - 1), zeros.as_ptr() as u64, PAGE, 0, 0];
     // SAFETY: the record has five numbers; a page of bytes is there to be read.
     unsafe { libc::ioctl(descriptor.as_raw_fd(), UFFDIO_COPY as _, copy.as_mut_ptr()) };
+}
+
+/// Keeps this thread off the processors where the threads of a process ran last, if another one is left, so that both can work at once.
+pub struct Apart {
+    before: libc::cpu_set_t,
+}
+
+impl Apart {
+    pub fn of(process: i32) -> Option<Self> {
+        let size = std::mem::size_of::<libc::cpu_set_t>();
+        // SAFETY: a set of zeros is an empty one, and there is room for a set; a processor that no set can have is left out.
+        unsafe {
+            let mut before: libc::cpu_set_t = std::mem::zeroed();
+            checked(libc::sched_getaffinity(0, size, &mut before)).ok()?;
+            let mut rest = before;
+            for processor in processors_of(process).filter(|it| *it < libc::CPU_SETSIZE as usize) {
+                libc::CPU_CLR(processor, &mut rest);
+            }
+            let is_apart = libc::CPU_COUNT(&rest) > 0 && libc::sched_setaffinity(0, size, &rest) == 0;
+            is_apart.then_some(Apart { before })
+        }
+    }
+}
+
+impl Drop for Apart {
+    fn drop(&mut self) {
+        // SAFETY: the set is whole.
+        unsafe { libc::sched_setaffinity(0, std::mem::size_of::<libc::cpu_set_t>(), &self.before) };
+    }
+}
+
+/// On which processor each thread of a process ran last: the 39th number of its state, and the 37th behind its name.
+fn processors_of(process: i32) -> impl Iterator<Item = usize> {
+    let threads = std::fs::read_dir(format!("/proc/{process}/task")).into_iter().flatten().flatten();
+    threads.filter_map(|it| {
+        let text = std::fs::read_to_string(it.path().join("stat")).ok()?;
+        text[text.rfind(')')? + 1..].split_whitespace().nth(36)?.parse().ok()
+    })
 }
 
 /// Whether the checker runs as root.

@@ -219,7 +219,7 @@ impl Target {
 
     /// A connection that accepted these protocol features.
     pub fn negotiate_with(&mut self, features: Feature) -> Result<Connection, Stop> {
-        let connection = self.negotiate()?;
+        let connection = self.negotiate_by(Terms { with: features, ..Terms::default() })?;
         connection.want(features)?;
         Ok(connection)
     }
@@ -296,6 +296,8 @@ impl Target {
         }
         settle(self.process());
         if let Some(earlier) = self.earlier.take() {
+            // (the one after it belongs to the same case, and may be about to end for the same reason)
+            self.stop();
             return earlier;
         }
         if !self.persists {
@@ -309,7 +311,11 @@ impl Target {
                 self.stop();
                 Health::Crashed(complaint)
             }
-            (None, None) if self.persists => self.is_served(),
+            (None, None) if self.persists => {
+                // (one that was still about to end is seen once a new connection finds it gone)
+                let health = self.is_served();
+                self.earlier.take().unwrap_or(health)
+            }
             (None, None) => {
                 self.stop();
                 Health::Well

@@ -1,8 +1,9 @@
 #!/usr/bin/env python3
 # SPDX-License-Identifier: Apache-2.0
-"""A source of entropy that keeps the protocol, but for one fault: faulty.py --socket-path=SOCKET [FAULT], or --fd=NUMBER of a connected one
+"""A source of entropy that keeps the protocol, but for one fault: faulty.py --socket-path=SOCKET [FAULT [IMAGE]], or --fd=NUMBER of a
+connected one
 
-Each FAULT is a word below, where it is planted. Without one the checker finds nothing in it.
+Each FAULT is a word below, where it is planted. Without one the checker finds nothing in it. Its configuration says how great IMAGE is.
 """
 import ctypes
 import fcntl
@@ -13,19 +14,25 @@ import signal
 import socket
 import struct
 import sys
+import threading
 import time
 
 NAMES = """GET_FEATURES SET_FEATURES SET_OWNER RESET_OWNER SET_MEM_TABLE SET_LOG_BASE SET_LOG_FD SET_VRING_NUM SET_VRING_ADDR SET_VRING_BASE
 GET_VRING_BASE SET_VRING_KICK SET_VRING_CALL SET_VRING_ERR GET_PROTOCOL_FEATURES SET_PROTOCOL_FEATURES GET_QUEUE_NUM SET_VRING_ENABLE SEND_RARP
 NET_SET_MTU SET_BACKEND_REQ_FD IOTLB_MSG SET_VRING_ENDIAN GET_CONFIG SET_CONFIG CREATE_CRYPTO_SESSION CLOSE_CRYPTO_SESSION POSTCOPY_ADVISE
 POSTCOPY_LISTEN POSTCOPY_END GET_INFLIGHT_FD SET_INFLIGHT_FD GPU_SET_SOCKET RESET_DEVICE VRING_KICK GET_MAX_MEM_SLOTS ADD_MEM_REG REM_MEM_REG
-SET_STATUS GET_STATUS""".split()
+SET_STATUS GET_STATUS GET_SHARED_OBJECT SET_DEVICE_STATE_FD CHECK_DEVICE_STATE""".split()
 LOG_ALL, PROTOCOL_FEATURES = 1 << 26, 1 << 30
-INDIRECT_TABLES, PACKED = 1 << 28, 1 << 34
-FEATURES = LOG_ALL | PROTOCOL_FEATURES | INDIRECT_TABLES | 1 << 32 | PACKED
-REPLY_ACK, PAGEFAULT = 1 << 3, 1 << 8
-# MQ, LOG_SHMFD, REPLY_ACK, BACKEND_REQ, PAGEFAULT, CONFIG, INFLIGHT_SHMFD, RESET_DEVICE, CONFIGURE_MEM_SLOTS, STATUS
-PROTOCOL = sum(1 << bit for bit in (0, 1, 3, 5, 8, 9, 12, 13, 15, 16))
+INDIRECT_TABLES, IOMMU, PACKED = 1 << 28, 1 << 33, 1 << 34
+FEATURES = LOG_ALL | PROTOCOL_FEATURES | INDIRECT_TABLES | 1 << 32 | IOMMU | PACKED
+REPLY_ACK, BACKEND_REQ, PAGEFAULT, IN_BAND, GUEST_ADDRESSES = 1 << 3, 1 << 5, 1 << 8, 1 << 14, 1 << 21
+# MQ, LOG_SHMFD, REPLY_ACK, BACKEND_REQ, PAGEFAULT, CONFIG, INFLIGHT_SHMFD, RESET_DEVICE, INBAND_NOTIFICATIONS, CONFIGURE_MEM_SLOTS, STATUS,
+# DEVICE_STATE, GPA_ADDRESSES
+PROTOCOL = sum(1 << bit for bit in (0, 1, 3, 5, 8, 9, 12, 13, 14, 15, 16, 19, 21))
+# Of the backend's channel and of an IOTLB message; and of the display.
+IOTLB_MSG, CONFIG_CHANGE, VRING_CALL = 1, 2, 4
+MISS, UPDATE = 1, 2
+DISPLAY_FEATURES = 1
 NEED_REPLY, REPLY, VERSION = 8, 4, 1
 NEXT, WRITE, INDIRECT = 1, 2, 4
 AVAILABLE, USED = 1 << 7, 1 << 15
@@ -36,6 +43,9 @@ UFFDIO_API, UFFDIO_REGISTER, UFFDIO_UNREGISTER = 0xc018aa3f, 0xc020aa00, 0x8010a
 BUFFERS = 0x20000
 USERFAULTFD = {"x86_64": 323, "aarch64": 282}[os.uname().machine]
 FAULT = sys.argv[2] if len(sys.argv) > 2 else ""
+IMAGE = sys.argv[3] if len(sys.argv) > 3 else None
+FETCH_OR = getattr(ctypes.CDLL("libatomic.so.1"), "__atomic_fetch_or_1")
+SEQUENTIALLY = 5
 
 
 class Refused(Exception):
@@ -73,6 +83,7 @@ class Region:
 class Ring:
     def __init__(self):
         self.size, self.base, self.used, self.places, self.log = 0, 0, 0, None, None
+        self.behind = None
         self.kick = self.call = self.error = None
         self.enabled = self.started = self.broken = False
         self.taken = 0
@@ -96,6 +107,7 @@ class Session:
         self.connection, self.features, self.protocol, self.status = connection, 0, 0, 0
         self.regions, self.rings, self.log, self.channel, self.userfault = [], [Ring()], None, None, None
         self.listening = self.awaiting = self.accepted = False
+        self.pages, self.state, self.lock, self.works = {}, None, threading.RLock(), False
 
     # The stream of messages.
 
@@ -183,6 +195,8 @@ class Session:
     def set_protocol_features(self, body, _descriptors):
         (features,) = struct.unpack("<Q", body)
         need(not features & ~PROTOCOL)
+        if features & IN_BAND and ~features & (BACKEND_REQ | REPLY_ACK):
+            raise Gone
         self.protocol = features
 
     def set_owner(self, _body, _descriptors):
@@ -271,8 +285,12 @@ class Session:
     def set_vring_addr(self, body, _descriptors):
         index, flags, table, used, available, log = struct.unpack("<IIQQQQ", body)
         need(index < len(self.rings))
-        places = [self.of_user(it) for it in (table, available, used)]
-        self.rings[index].places, self.rings[index].log = places, log if flags & 1 else None
+        ring, addresses = self.rings[index], (table, available, used)
+        ring.log, ring.behind, ring.places = log if flags & 1 else None, None, None
+        if self.features & IOMMU and FAULT != "rings are not translated":
+            ring.behind = addresses
+        else:
+            ring.places = [self.of_user(it) for it in addresses]
 
     def get_vring_base(self, body, _descriptors):
         ring, _ = self.ring(body)
@@ -337,8 +355,14 @@ class Session:
         if ring.region is not None:
             ring.region[16 + 16 * head] = 0
             ring.region[14:16] = struct.pack("<H", ring.used)
-        if ring.call is not None and FAULT != "the call is not signalled":
+        if FAULT != "the call is not signalled":
+            self.signal(ring)
+
+    def signal(self, ring):
+        if ring.call is not None:
             os.eventfd_write(ring.call, 1)
+        elif self.protocol & IN_BAND and self.channel is not None and FAULT != "a call is no message":
+            self.ask(VRING_CALL, struct.pack("<II", 0, 0))
 
     def resubmit(self, ring):
         """Carries out what the region of a packed ring says is under way, in the order of its counters."""
@@ -359,7 +383,7 @@ class Session:
 
     def set_vring_call(self, body, descriptors):
         ring, kept = self.event(body, descriptors)
-        if ring.call is not None:
+        if ring.call is not None and FAULT != "old calls are kept":
             os.close(ring.call)
         ring.call = kept
 
@@ -375,13 +399,45 @@ class Session:
         ring.enabled = bool(value)
         self.process(ring)
 
+    def vring_kick(self, body, _descriptors):
+        ring, _ = self.ring(body)
+        ring.started = True
+        self.process(ring)
+
+    def iotlb_msg(self, body, _descriptors):
+        at, size, user, _, kind = struct.unpack("<QQQBB6x", body)
+        if kind == UPDATE:
+            self.pages.update({at + it: user + it for it in range(0, size, PAGE)})
+        elif FAULT != "an old translation is used":
+            self.pages = {page: user for page, user in self.pages.items() if not at <= page < at + size}
+            self.rings[0].places = None
+        return struct.pack("<Q", 0)
+
+    def of_iova(self, address, length):
+        """By what the frontend tells of a page, which it is asked for."""
+        page = address - address % PAGE
+        need(address + length <= page + PAGE and self.channel is not None)
+        if page not in self.pages:
+            self.ask(IOTLB_MSG, struct.pack("<QQQBB6x", page, 0, 0, 3, MISS))
+        while page not in self.pages:
+            self.next()
+        return self.of_user(self.pages[page] + address % PAGE)
+
+    def ask(self, code, body):
+        """Asks the frontend on its channel."""
+        os.write(self.channel, struct.pack("<III", code, VERSION, len(body)) + body)
+
     def of_user(self, address):
+        if self.protocol & GUEST_ADDRESSES and FAULT == "addresses of the guest are not taken":
+            raise Refused
         for it in self.regions:
             if it.user <= address < it.user + it.size:
                 return it.map, address - it.user
         raise Refused
 
     def of_guest(self, address, length):
+        if self.features & IOMMU:
+            return self.of_iova(address, length)
         for it in self.regions:
             if it.guest <= address and address + length <= it.guest + it.size:
                 return it.map, address - it.guest
@@ -390,9 +446,27 @@ class Session:
     def process(self, ring):
         """Carries out what is available, where the ring is started and enabled."""
         enabled = ring.enabled or FAULT == "a disabled ring is served"
-        if not (ring.started and enabled and ring.places and ring.size) or ring.broken:
+        if not (ring.started and enabled and (ring.places or ring.behind) and ring.size) or ring.broken:
+            return
+        if FAULT == "a stop does not wait" and self.userfault is not None:
+            threading.Thread(target=self.work, args=(ring,), daemon=True).start()
+        else:
+            self.work(ring)
+
+    def work(self, ring):
+        with self.lock:
+            # (who awaits a translation takes other requests meanwhile)
+            if not self.works:
+                self.works = True
+                self.serve(ring)
+                self.works = False
+
+    def serve(self, ring):
+        if FAULT == "a ring waits for its region" and ring.region is None:
             return
         try:
+            if ring.places is None:
+                ring.places = [self.of_iova(it, 1) for it in ring.behind]
             if self.features & PACKED:
                 self.carry_out_packed(ring)
             else:
@@ -432,8 +506,8 @@ class Session:
             self.write_used(table, slot, filled, number, ring.wrap)
             ring.go_on(count, FAULT == "the wrap counter stays")
             (wanted,) = struct.unpack("<H", driver[event + 2:event + 4])
-            if ring.call is not None and (wanted != 1 or FAULT == "calls that are not wanted"):
-                os.eventfd_write(ring.call, 1)
+            if wanted != 1 or FAULT == "calls that are not wanted":
+                self.signal(ring)
 
     def fill_packed(self, ring, table, at):
         """How many bytes it has filled, of how many descriptors, and the id of the last."""
@@ -472,6 +546,13 @@ class Session:
         self.mark(address, length)
         return length
 
+    def put(self, place, offset, data):
+        if FAULT == "a stop does not wait":
+            # (other threads go on meanwhile)
+            ctypes.memmove(ctypes.addressof(ctypes.c_char.from_buffer(place)) + offset, data, len(data))
+        else:
+            place[offset:offset + len(data)] = data
+
     def fill(self, table, at, size, head):
         filled = 0
         for _ in range(size):
@@ -479,8 +560,7 @@ class Session:
             address, length, flags, following = struct.unpack("<QIHH", table[at + 16 * head:at + 16 * head + 16])
             need(not flags & 4 and length)
             if flags & WRITE:
-                place, offset = self.of_guest(address, length)
-                place[offset:offset + length] = os.urandom(length)
+                self.put(*self.of_guest(address, length), os.urandom(length))
                 self.mark(address, length)
                 filled += length
             if not flags & NEXT:
@@ -500,14 +580,22 @@ class Session:
         return b""
 
     def set_log_fd(self, _body, _descriptors):
-        pass
+        if FAULT == "an eventfd of the log ends it":
+            self.log = None
 
     def mark(self, address, length=1):
         if self.log is None or not self.features & LOG_ALL or FAULT == "pages are not marked":
             return
         for page in range(address // PAGE, (address + length - 1) // PAGE + 1):
-            if page // 8 < len(self.log):
-                self.log[page // 8] |= 1 << page % 8
+            if page // 8 >= len(self.log):
+                continue
+            if FAULT == "a page is marked in two steps":
+                marks = self.log[page // 8]
+                time.sleep(0.0001)
+                self.log[page // 8] = marks | 1 << page % 8
+            else:
+                place = ctypes.c_char.from_buffer(self.log, page // 8)
+                FETCH_OR(ctypes.byref(place), 1 << page % 8, SEQUENTIALLY)
 
     # The configuration space, the status, and a reset.
 
@@ -523,6 +611,17 @@ class Session:
         offset, size, flags = struct.unpack("<III", body[:12])
         need(offset + size <= SPACE and len(body) == 12 + size and (flags == 1 or FAULT == "a read-only field is written"))
         CONFIGURATION[offset:offset + size] = body[12:]
+
+    def look(self):
+        """Whether the image is as great as it was."""
+        size = struct.pack("<Q", os.stat(IMAGE).st_size // 512)
+        if size == SEEN[0]:
+            return
+        SEEN[0] = size
+        if FAULT != "a change is told of that is not there":
+            CONFIGURATION[:8] = size
+        if self.channel is not None:
+            self.ask(CONFIG_CHANGE, b"")
 
     def get_status(self, _body, _descriptors):
         return struct.pack("<Q", 0 if FAULT == "the status is forgotten" else self.status)
@@ -583,12 +682,49 @@ class Session:
                 fcntl.ioctl(self.userfault, UFFDIO_UNREGISTER, struct.pack("<QQ", it.place(), it.size))
         return struct.pack("<Q", 0)
 
+    # Its state, and a display.
+
+    def set_device_state_fd(self, body, descriptors):
+        direction, phase = struct.unpack("<II", body)
+        runs = self.rings[0].started and FAULT != "a state is saved while a ring runs"
+        if direction > 1 or phase or len(descriptors) != 1 or runs:
+            return struct.pack("<Q", 0x101)
+        if direction:
+            self.state = os.dup(descriptors[0])
+        else:
+            self.state = bytes(CONFIGURATION)
+            try:
+                os.write(descriptors[0], self.state)
+            except OSError:
+                self.state = None
+        return struct.pack("<Q", 0 if FAULT == "a state says that a descriptor came" else 0x100)
+
+    def check_device_state(self, _body, _descriptors):
+        if isinstance(self.state, int):
+            descriptor, self.state = self.state, b""
+            while part := os.read(descriptor, PAGE):
+                self.state += part
+            os.close(descriptor)
+            if FAULT == "a state is not taken":
+                self.state = None
+        return struct.pack("<Q", 0 if self.state is not None and len(self.state) == SPACE else 1)
+
+    def gpu_set_socket(self, _body, descriptors):
+        need(len(descriptors) == 1)
+        with socket.socket(fileno=os.dup(descriptors[0])) as display:
+            display.sendall(struct.pack("<III", DISPLAY_FEATURES, 0, 0))
+            size = struct.unpack("<III", display.recv(12, socket.MSG_WAITALL))[2]
+            if size != 8 and FAULT == "a wrong display crashes":
+                os.kill(os.getpid(), signal.SIGSEGV)
+
     # Its run.
 
     def run(self):
         while True:
             kicks = [it.kick for it in self.rings if it.kick is not None and it.started]
-            for ready in select.select([self.connection, *kicks], [], [])[0]:
+            if IMAGE is not None:
+                self.look()
+            for ready in select.select([self.connection, *kicks], [], [], 0.02 if IMAGE else None)[0]:
                 if ready is self.connection:
                     self.next()
                     break
@@ -616,10 +752,13 @@ else:
     os.close(TRIED)
 CONFIGURATION = bytearray(range(SPACE))
 KEPT = []
+SEEN = [None]
 
 
 def serve(connection):
     session = Session(connection)
+    if IMAGE is not None:
+        SEEN[0] = CONFIGURATION[:8] = struct.pack("<Q", os.stat(IMAGE).st_size // 512)
     try:
         session.run()
     except (Gone, OSError):

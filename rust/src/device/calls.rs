@@ -1,26 +1,34 @@
 // SPDX-License-Identifier: Apache-2.0
 //! What each call of a frontend means for a device.
+use std::collections::btree_map::Entry;
 use std::fs::File;
 use std::io;
-use std::os::unix::io::{OwnedFd, RawFd};
+use std::os::unix::io::{AsRawFd, OwnedFd, RawFd};
 use std::os::unix::net::UnixStream;
-use std::sync::atomic::{AtomicBool, Ordering};
-use std::sync::{Arc, MutexGuard};
+use std::sync::{Arc, Mutex, MutexGuard, PoisonError};
 
 use super::arrival::Arrival;
-use super::shared::{Shared, State};
+use super::shared::{Place, Shared, State};
 use super::{features_of, protocol_features_of, Device, MAX_QUEUE_SIZE, MAX_REGIONS, RING_PACKED};
 use crate::foreign::{Bell, Kick, PeerFd};
 use crate::queue::{Change, DirtyLog, GuestAddress, GuestMemory, GuestRegion, InflightRegion};
+use crate::telling::{is_heard, Level};
 use crate::vhost_user::message::*;
 use crate::vhost_user::{Backend, Error, GpuBackend, Result, VhostUserBackendReqHandler};
+use crate::why::unmapped;
 #[cfg(not(feature = "compat-0_17"))]
 use crate::VhostUserMemoryRegionBase;
+use crate::{queue, reasons};
 
 /// Why a call is refused that a device of this kind has not.
 const NOT_OFFERED: Error = Error::InvalidOperation("it was not offered");
 const NO_RING: Error = Error::InvalidOperation("the device has no such queue");
 const IS_STARTED: Error = Error::InvalidOperation("the queue is started");
+
+/// What tells a region from the others of its session.
+fn place_of(about: &VhostUserMemoryRegion) -> Place {
+    (about.guest_phys_addr, about.user_addr, about.memory_size)
+}
 
 /// A device as its frontend asks it.
 pub(super) struct Calls<D> {
@@ -28,8 +36,8 @@ pub(super) struct Calls<D> {
     shared: Arc<Shared>,
     frontend: UnixStream,
     signals: RawFd,
-    /// Whether a call was refused whose reply says so itself.
-    has_refused: AtomicBool,
+    /// Why the call that is answered is refused, where that is known and somebody listens.
+    reason: Mutex<Option<String>>,
 }
 
 /// What a frontend sent, which is closed without waiting for it.
@@ -43,12 +51,26 @@ fn failed(cause: io::Error) -> Error {
 
 impl<D: Device> Calls<D> {
     pub(super) fn new(device: Arc<D>, shared: Arc<Shared>, frontend: UnixStream, signals: RawFd) -> Calls<D> {
-        Calls { device, shared, frontend, signals, has_refused: AtomicBool::new(false) }
+        Calls { device, shared, frontend, signals, reason: Mutex::new(None) }
     }
 
-    /// Whether a call was refused since this was last asked.
-    pub(super) fn take_refused(&self) -> bool {
-        self.has_refused.swap(false, Ordering::SeqCst)
+    /// Why the call that was answered last was refused, once.
+    pub(super) fn take_reason(&self) -> Option<String> {
+        self.reason.lock().unwrap_or_else(PoisonError::into_inner).take()
+    }
+
+    /// Notes why a call is refused, unless another reason was noted before it; the error is returned.
+    fn refuse(&self, error: Error, reason: impl FnOnce(&Error) -> String) -> Error {
+        if is_heard(Level::Warning) {
+            let mut noted = self.reason.lock().unwrap_or_else(PoisonError::into_inner);
+            noted.get_or_insert_with(|| reason(&error));
+        }
+        error
+    }
+
+    /// The same where a queue refuses.
+    fn refuse_by(&self, error: queue::Error, reason: impl FnOnce(queue::Error) -> String) -> Error {
+        self.refuse(failed(error.into()), |_| reason(error))
     }
 
     /// The lock, where there is a ring of this number.
@@ -56,8 +78,46 @@ impl<D: Device> Calls<D> {
         let state = self.shared.lock();
         match index as usize {
             index if index < state.rings.len() => Ok((state, index)),
-            _ => Err(NO_RING),
+            _ => Err(self.refuse(NO_RING, |_| reasons::no_queue(state.rings.len() as u64, index))),
         }
+    }
+
+    /// That a queue is started, by which a call is refused.
+    fn is_started(&self, index: usize) -> Error {
+        self.refuse(IS_STARTED, |_| reasons::is_started(index as u32))
+    }
+
+    /// Whether all of these features were offered.
+    fn check_offered(&self, accepted: u64, offered: u64) -> Result<()> {
+        match accepted & !offered {
+            0 => Ok(()),
+            others => Err(self.refuse(Error::InvalidParam, |_| reasons::not_offered(others))),
+        }
+    }
+
+    fn unserved(&self) -> Error {
+        self.refuse(NOT_OFFERED, |_| reasons::UNSERVED.to_string())
+    }
+
+    /// What a call of the device came to that not each device has.
+    fn served<T>(&self, done: io::Result<T>) -> Result<T> {
+        done.map_err(|cause| match cause.kind() {
+            io::ErrorKind::Unsupported => self.unserved(),
+            _ => failed(cause),
+        })
+    }
+
+    fn not_advised(&self) -> Error {
+        self.refuse(Error::InvalidOperation(reasons::NOT_ADVISED), |_| reasons::NOT_ADVISED.to_string())
+    }
+
+    fn no_userfault(&self, cause: io::Error) -> Error {
+        self.refuse(failed(cause), |_| reasons::NO_USERFAULT.to_string())
+    }
+
+    /// That a part of a file could not be mapped.
+    fn unmapped(&self, cause: io::Error, what: &str, file: &PeerFd, (offset, size): (u64, u64)) -> Error {
+        self.refuse(failed(cause), |_| unmapped(what, file.as_raw_fd(), offset, size))
     }
 
     fn tell_accepted(&self) {
@@ -67,31 +127,51 @@ impl<D: Device> Calls<D> {
         self.device.accepted(features, VhostUserProtocolFeatures::from_bits_truncate(protocol_features));
     }
 
-    fn map(&self, about: &VhostUserMemoryRegion, file: &PeerFd) -> Result<GuestRegion> {
-        GuestRegion::map_for(&self.shared.holder, about, file).map_err(failed)
+    fn map(&self, index: usize, about: &VhostUserMemoryRegion, file: &PeerFd) -> Result<GuestRegion> {
+        let mapped = GuestRegion::map_for(&self.shared.holder, about, file);
+        let place = (about.mmap_offset, about.memory_size);
+        mapped.map_err(|cause| self.unmapped(cause, &reasons::region(index as u32), file, place))
+    }
+
+    /// Memory of these regions, and that it is another than before.
+    fn memory_of(&self, regions: impl IntoIterator<Item = GuestRegion>) -> Result<(GuestMemory, Change)> {
+        let memory = GuestMemory::from_regions(regions).map_err(|error| self.refuse_by(error, |rule| rule.to_string()))?;
+        Ok((memory, Change::All))
     }
 
     /// The session has this memory, by this change: where the last regions of it are mapped.
     fn use_memory(&self, (memory, change): (GuestMemory, Change), count: usize) -> Result<Vec<u64>> {
         let regions = memory.regions().clone();
-        self.shared.lock().set_memory(memory, &change).map_err(|error| failed(error.into()))?;
+        let used = self.shared.lock().set_memory(memory, &change);
+        used.map_err(|error| self.refuse_by(error, |rule| rule.to_string()))?;
         Ok(regions[regions.len() - count..].iter().map(|region| region.host()).collect())
     }
 
     fn set_regions(&self, table: &[VhostUserMemoryRegion], files: Vec<File>) -> Result<Vec<u64>> {
         // (all of them, since none is looked at behind one that is refused)
         let files: Vec<PeerFd> = files.into_iter().map(given).collect();
-        let mapped: Result<Vec<_>> = table.iter().zip(&files).map(|(about, file)| self.map(about, file)).collect();
-        let memory = GuestMemory::from_regions(mapped?).map_err(|error| failed(error.into()))?;
-        self.use_memory((memory, Change::All), table.len())
+        let given = table.iter().zip(&files).enumerate();
+        let mapped: Result<Vec<_>> = given.map(|(index, (about, file))| self.map(index, about, file)).collect();
+        self.use_memory(self.memory_of(mapped?)?, table.len())
     }
 
     fn add_region(&self, about: &VhostUserMemoryRegion, file: File) -> Result<u64> {
-        let added = self.map(about, &given(file))?;
-        let before = self.shared.lock().memory.clone();
+        let added = self.map(0, about, &given(file))?;
+        let mut state = self.shared.lock();
+        let before = state.memory.clone();
+        if let Some(there) = before.iter().flat_map(GuestMemory::iter).find(|it| it.is_same(&added)) {
+            let most = state.rings.len();
+            let times = state.again.entry(place_of(about)).or_default();
+            // (one that is given more often overlaps itself, as any other)
+            if *times < most {
+                *times += 1;
+                return Ok(there.0.host());
+            }
+        }
+        drop(state);
         let changed = match before {
             Some(memory) => memory.with_region(added),
-            None => (GuestMemory::from_regions([added]).map_err(|error| failed(error.into()))?, Change::All),
+            None => self.memory_of([added])?,
         };
         let bases = self.use_memory(changed, 1)?;
         Ok(bases[0])
@@ -107,9 +187,6 @@ impl<D: Device> Calls<D> {
     }
 
     fn begin_postcopy(&self) -> io::Result<File> {
-        if self.shared.lock().arrival.is_some() {
-            return Err(io::ErrorKind::AlreadyExists.into());
-        }
         let frontend = self.frontend.try_clone()?;
         let (arrival, file) = Arrival::begin(self.shared.holder.clone(), frontend, self.shared.stop.clone(), self.signals)?;
         self.shared.lock().arrival = Some(arrival);
@@ -117,7 +194,10 @@ impl<D: Device> Calls<D> {
     }
 
     fn set_bell(&self, index: u8, fd: Option<File>, is_call: bool) -> Result<()> {
-        let bell = fd.map(|file| Bell::of(given(file)).ok_or(Error::InvalidParam)).transpose()?;
+        let takes_streams = self.device.calls_by_pipe();
+        let why = if takes_streams { reasons::NO_SIGNAL } else { reasons::NO_EVENTFD };
+        let no_bell = || self.refuse(Error::InvalidParam, |_| why.to_string());
+        let bell = fd.map(|file| Bell::of(given(file), takes_streams).ok_or_else(no_bell)).transpose()?;
         let (mut state, index) = self.with_ring(index.into())?;
         match is_call {
             true => state.rings[index].call = bell,
@@ -145,9 +225,7 @@ impl<D: Device> VhostUserBackendReqHandler for Calls<D> {
     }
 
     fn set_features(&self, features: u64) -> Result<()> {
-        if features & !features_of(&*self.device) != 0 {
-            return Err(Error::InvalidParam);
-        }
+        self.check_offered(features, features_of(&*self.device))?;
         let mut state = self.shared.lock();
         state.features = features;
         (0..state.rings.len()).for_each(|index| state.set_log(index));
@@ -161,9 +239,7 @@ impl<D: Device> VhostUserBackendReqHandler for Calls<D> {
     }
 
     fn set_protocol_features(&self, features: u64) -> Result<()> {
-        if features & !protocol_features_of(&*self.device).bits() != 0 {
-            return Err(Error::InvalidParam);
-        }
+        self.check_offered(features, protocol_features_of(&*self.device).bits())?;
         self.shared.lock().protocol_features = features;
         self.tell_accepted();
         Ok(())
@@ -178,14 +254,13 @@ impl<D: Device> VhostUserBackendReqHandler for Calls<D> {
         if self.device.read_config(offset, &mut bytes) {
             return Ok(bytes);
         }
-        self.has_refused.store(true, Ordering::SeqCst);
-        Err(Error::InvalidParam)
+        Err(self.refuse(Error::InvalidParam, |_| reasons::no_config(size.into(), offset)))
     }
 
     fn set_config(&self, offset: u32, bytes: &[u8], _flags: VhostUserConfigFlags) -> Result<()> {
         match self.device.write_config(offset, bytes) {
             true => Ok(()),
-            false => Err(Error::InvalidParam),
+            false => Err(self.refuse(Error::InvalidParam, |_| reasons::fixed_config(bytes.len() as u64, offset))),
         }
     }
 
@@ -201,8 +276,16 @@ impl<D: Device> VhostUserBackendReqHandler for Calls<D> {
         self.device.channel(channel);
     }
 
-    fn set_gpu_socket(&self, _gpu_backend: GpuBackend) -> Result<()> {
-        Err(NOT_OFFERED)
+    fn set_gpu_socket(&self, gpu_backend: GpuBackend) -> Result<()> {
+        self.served(self.device.set_gpu_socket(gpu_backend))
+    }
+
+    fn get_shared_object(&self, uuid: VhostUserSharedMsg) -> Result<File> {
+        self.served(self.device.get_shared_object(uuid))
+    }
+
+    fn get_shmem_config(&self) -> Result<VhostUserShMemConfig> {
+        self.served(self.device.get_shmem_config())
     }
 
     // -- Memory --
@@ -242,24 +325,36 @@ impl<D: Device> VhostUserBackendReqHandler for Calls<D> {
     }
 
     fn remove_mem_region(&self, region: &VhostUserSingleMemoryRegion) -> Result<()> {
-        let memory = self.shared.lock().memory.clone().ok_or(Error::InvalidParam)?;
+        let mut state = self.shared.lock();
+        if let Entry::Occupied(mut times) = state.again.entry(place_of(region)) {
+            *times.get_mut() -= 1;
+            if *times.get() == 0 {
+                times.remove();
+            }
+            return Ok(());
+        }
+        let memory = state.memory.clone();
+        drop(state);
+        let no_such = || self.refuse(Error::InvalidParam, |_| queue::Error::NoSuchRegion.to_string());
         let (start, user_addr, size) = (GuestAddress(region.guest_phys_addr), region.user_addr, region.memory_size);
-        let changed = memory.without_region(start, user_addr, size).map_err(|error| failed(error.into()))?;
-        self.use_memory(changed, 0).map(drop)
+        let changed = memory.ok_or_else(no_such)?.without_region(start, user_addr, size);
+        self.use_memory(changed.map_err(|error| self.refuse_by(error, |rule| rule.to_string()))?, 0).map(drop)
     }
 
     fn set_log_base(&self, log: &VhostUserLog, file: File) -> Result<()> {
-        let log = DirtyLog::map_for(&self.shared.holder, log, &given(file));
+        let (place, file) = ((log.mmap_offset, log.mmap_size), given(file));
+        let log = DirtyLog::map_for(&self.shared.holder, log, &file);
         let mut state = self.shared.lock();
         state.log = log.as_ref().ok().cloned();
         (0..state.rings.len()).for_each(|index| state.set_log(index));
-        log.map(drop).map_err(failed)
+        log.map(drop).map_err(|cause| self.unmapped(cause, reasons::THE_LOG, &file, place))
     }
 
     fn postcopy_advice(&self) -> Result<File> {
-        let begun = self.begin_postcopy();
-        self.has_refused.fetch_or(begun.is_err(), Ordering::SeqCst);
-        begun.map_err(failed)
+        if self.shared.lock().arrival.is_some() {
+            return Err(self.refuse(failed(io::ErrorKind::AlreadyExists.into()), |_| reasons::ADVISED.to_string()));
+        }
+        self.begin_postcopy().map_err(|cause| self.no_userfault(cause))
     }
 
     fn postcopy_listen(&self) -> Result<()> {
@@ -269,9 +364,9 @@ impl<D: Device> VhostUserBackendReqHandler for Calls<D> {
     fn postcopy_ack_mem_regions(&self) -> Result<()> {
         let state = self.shared.lock();
         match (&state.arrival, &state.memory) {
-            (Some(arrival), Some(memory)) => arrival.watch(memory).map_err(failed),
+            (Some(arrival), Some(memory)) => arrival.watch(memory).map_err(|cause| self.no_userfault(cause)),
             (Some(_), None) => Ok(()),
-            (None, _) => Err(Error::InvalidOperation("postcopy was not advised")),
+            (None, _) => Err(self.not_advised()),
         }
     }
 
@@ -279,8 +374,8 @@ impl<D: Device> VhostUserBackendReqHandler for Calls<D> {
         let mut state = self.shared.lock();
         let (arrival, memory) = (state.arrival.take(), state.memory.clone());
         drop(state);
-        let arrival = arrival.ok_or(Error::InvalidOperation("postcopy was not advised"))?;
-        arrival.end(memory.as_ref()).map_err(failed)
+        let arrival = arrival.ok_or_else(|| self.not_advised())?;
+        arrival.end(memory.as_ref()).map_err(|cause| self.no_userfault(cause))
     }
 
     // -- Rings --
@@ -288,11 +383,13 @@ impl<D: Device> VhostUserBackendReqHandler for Calls<D> {
     fn set_vring_num(&self, index: u32, num: u32) -> Result<()> {
         let (mut state, index) = self.with_ring(index)?;
         let queue = &mut state.rings[index].queue;
-        match u16::try_from(num) {
-            Ok(size) if !queue.ready() => queue.set_size(size).map_err(|_| Error::InvalidParam),
-            Ok(_) => Err(IS_STARTED),
-            Err(_) => Err(Error::InvalidParam),
+        if queue.ready() {
+            return Err(self.is_started(index));
         }
+        let most = self.device.max_queue_size().min(MAX_QUEUE_SIZE);
+        let set = u16::try_from(num).map_or(false, |size| size <= most && queue.set_size(size).is_ok());
+        let wrong_size = |_: &Error| reasons::wrong_size(index as u32, num.into(), most.into());
+        set.then_some(()).ok_or_else(|| self.refuse(Error::InvalidParam, wrong_size))
     }
 
     fn set_vring_addr(
@@ -321,7 +418,7 @@ impl<D: Device> VhostUserBackendReqHandler for Calls<D> {
         let (mut state, index) = self.with_ring(index)?;
         let queue = &mut state.rings[index].queue;
         if queue.ready() {
-            return Err(IS_STARTED);
+            return Err(self.is_started(index));
         }
         queue.set_base(base);
         Ok(())
@@ -337,17 +434,24 @@ impl<D: Device> VhostUserBackendReqHandler for Calls<D> {
 
     /// The kick begins the ring.
     fn set_vring_kick(&self, index: u8, fd: Option<File>) -> Result<()> {
-        let kick = fd.map(|file| Kick::of(given(file)).ok_or(Error::InvalidParam)).transpose()?;
+        let no_eventfd = || self.refuse(Error::InvalidParam, |_| reasons::NO_EVENTFD.to_string());
+        let kick = fd.map(|file| Kick::of(given(file)).ok_or_else(no_eventfd)).transpose()?;
         let (mut state, index) = self.with_ring(index.into())?;
         if let Some(kick) = &kick {
-            self.shared.polled.add(kick, index as u32).map_err(failed)?;
+            let added = self.shared.polled.add(kick, index as u32);
+            added.map_err(|cause| self.refuse(failed(cause), |_| reasons::NO_EVENTFD.to_string()))?;
         }
         self.shared.set_kick(&mut state.rings[index], kick);
         state.rings[index].is_due = true;
-        match state.rings[index].queue.ready() {
-            true => Ok(()),
-            false => state.start_ring(index).map_err(|error| failed(error.into())),
+        if state.rings[index].queue.ready() {
+            return Ok(());
         }
+        let has_memory = state.memory.is_some();
+        let why = |rule: queue::Error| match has_memory {
+            true => reasons::not_to_start(index as u32, rule),
+            false => reasons::not_to_start(index as u32, reasons::NO_MEMORY),
+        };
+        state.start_ring(index).map_err(|error| self.refuse_by(error, why))
     }
 
     fn set_vring_call(&self, index: u8, fd: Option<File>) -> Result<()> {
@@ -378,31 +482,36 @@ impl<D: Device> VhostUserBackendReqHandler for Calls<D> {
     fn set_inflight_fd(&self, told: &VhostUserInflight, file: File) -> Result<()> {
         let file = given(file);
         let mut state = self.shared.lock();
-        if state.rings.iter().any(|ring| ring.queue.ready()) {
-            return Err(IS_STARTED);
+        if let Some(started) = state.rings.iter().position(|ring| ring.queue.ready()) {
+            return Err(self.is_started(started));
         }
+        let wrong = |_: &Error| {
+            let (queues, size) = (told.num_queues.into(), told.queue_size.into());
+            reasons::wrong_inflight(queues, size, told.mmap_size, told.mmap_offset)
+        };
         if usize::from(told.num_queues) > state.rings.len() || told.queue_size > MAX_QUEUE_SIZE {
-            return Err(Error::InvalidParam);
+            return Err(self.refuse(Error::InvalidParam, wrong));
         }
         let is_packed = state.features & RING_PACKED != 0;
-        let region = InflightRegion::map_for(&self.shared.holder, is_packed, told, &file).map_err(failed)?;
-        state.inflight = Some(region);
+        let size = InflightRegion::size_of(is_packed, told);
+        let region = InflightRegion::map_for(&self.shared.holder, is_packed, told, &file).map_err(|cause| match size {
+            Some(size) => self.unmapped(cause, reasons::THE_INFLIGHT, &file, (told.mmap_offset, size)),
+            None => self.refuse(failed(cause), wrong),
+        });
+        state.inflight = Some(region?);
         Ok(())
     }
 
     fn set_device_state_fd(
         &self,
-        _direction: VhostTransferStateDirection,
-        _phase: VhostTransferStatePhase,
+        direction: VhostTransferStateDirection,
+        phase: VhostTransferStatePhase,
         fd: File,
     ) -> Result<Option<File>> {
-        drop(given(fd));
-        self.has_refused.store(true, Ordering::SeqCst);
-        Err(NOT_OFFERED)
+        self.served(self.device.set_device_state_fd(direction, phase, fd))
     }
 
     fn check_device_state(&self) -> Result<()> {
-        self.has_refused.store(true, Ordering::SeqCst);
-        Err(NOT_OFFERED)
+        self.served(self.device.check_device_state())
     }
 }

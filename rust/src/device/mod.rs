@@ -30,8 +30,8 @@
 //! are handed out again ([`is_again`](crate::queue::DescriptorChain::is_again)).
 //!
 //! *The frontend is not trusted.* Only memory files are mapped (memfd, tmpfs, hugetlbfs), since the pages of another may be kept back by
-//! whoever serves its file system. Descriptors to kick and call by are eventfds, and for calls pipes and stream sockets, too; none is waited
-//! for, whatever its flags, and a frontend that floods a device is served in turns with its rings. A region that its file was truncated of
+//! whoever serves its file system. Descriptors to kick and call by are eventfds, unless [`Device::calls_by_pipe`]; none is waited
+//! for, whatever its flags, and neither is the close of the backend channel; and a frontend that floods a device is served in turns with its rings. A region that its file was truncated of
 //! becomes zeros at its first touch, all of it, and the session ends with [`MemoryLost`](Ended::MemoryLost); the system's own calls
 //! (`preadv` and its like) fail there with EFAULT, and then nothing is lost. That costs nothing until it happens, but takes a handler of
 //! SIGBUS, which is there from the first mapping on and hands each other fault to the handler that was there before: install one of your
@@ -52,13 +52,17 @@
 //! [`Device::protocol_features`], since a trait does not tell which of its calls are there; the backend channel comes as a
 //! [`Backend`], which knows what was accepted; and a frontend that does not take its replies is hung up on
 //! once its socket is full, where the kit in C keeps them.
+use std::fs::File;
 use std::sync::Arc;
 use std::time::Duration;
-use std::{error, fmt};
+use std::{error, fmt, io};
 
 use crate::queue;
-use crate::vhost_user::message::{VhostUserProtocolFeatures, VhostUserVirtioFeatures};
-use crate::vhost_user::{Backend, Error};
+use crate::vhost_user::message::{
+    VhostTransferStateDirection, VhostTransferStatePhase, VhostUserProtocolFeatures, VhostUserShMemConfig, VhostUserSharedMsg,
+    VhostUserVirtioFeatures,
+};
+use crate::vhost_user::{close_at_once, Backend, Error, GpuBackend};
 
 mod arrival;
 mod calls;
@@ -86,6 +90,8 @@ pub const RING_PACKED: u64 = 1 << 34;
 pub const MAX_QUEUES: usize = 64;
 /// The greatest size of a queue, in descriptors; a request has as many parts at most.
 pub const MAX_QUEUE_SIZE: u16 = 1024;
+/// The greatest number of requests that a device gets at once.
+pub const MAX_BURST: usize = 32;
 /// The greatest number of regions of memory of a session.
 pub const MAX_REGIONS: u64 = 509;
 
@@ -111,7 +117,8 @@ pub trait Device: Send + Sync {
     }
 
     /// How long a queue that is empty is looked at before its kick is waited for. A driver that makes one request after another is served sooner
-    /// by that, while the processor is kept busy and the frontend's calls wait. Only done where the last request came as soon as that.
+    /// by that, while the processor is kept busy and the frontend's calls wait. Only done where the last request came as soon as that. Where there
+    /// is one processor alone, a queue is not looked at while the device has a request of it, but from when that is given back.
     fn busy_poll(&self) -> Duration {
         Duration::ZERO
     }
@@ -122,8 +129,51 @@ pub trait Device: Send + Sync {
         0
     }
 
+    /// The largest queue that the device takes, in descriptors: 1 to [`MAX_QUEUE_SIZE`], and more counts as that. SET_VRING_NUM of a larger one is
+    /// refused. No request tells a frontend of this, so whoever starts both has to give them the same size.
+    fn max_queue_size(&self) -> u16 {
+        MAX_QUEUE_SIZE
+    }
+
+    /// Whether a queue's call and error may be pipes and stream sockets, too, as User Mode Linux sends them. A peer that has such a descriptor
+    /// and reads from it into memory that does not come, as of a file system that he serves, makes this process wait as it signals: neither
+    /// [`Stopper::stop`] nor a signal ends that, but the end of that reader. So only for a frontend that is trusted with the time of all that this
+    /// process serves.
+    fn calls_by_pipe(&self) -> bool {
+        false
+    }
+
+    /// How many requests of one queue it gets at once, by [`requests`](Self::requests): 1 to [`MAX_BURST`], and more counts as that. With 1 it gets
+    /// each by [`request`](Self::request).
+    fn burst(&self) -> usize {
+        1
+    }
+
     /// A request is the device's.
     fn request(&self, request: Request);
+
+    /// Requests of one queue are the device's, in the order of their driver: as many of those that are there already as [`burst`](Self::burst) says,
+    /// since none is waited for. A device that has little to do for each gives them back by [`Request::complete_all`]: then one lock is taken for all
+    /// of them, and their driver is told once.
+    ///
+    /// ```
+    /// # use covretin::device::{Device, Request, MAX_BURST};
+    /// # struct Null;
+    /// impl Device for Null {
+    ///     fn burst(&self) -> usize {
+    ///         MAX_BURST
+    ///     }
+    ///     fn request(&self, request: Request) {
+    ///         request.complete(0);
+    ///     }
+    ///     fn requests(&self, requests: Vec<Request>) {
+    ///         Request::complete_all(requests.into_iter().map(|request| (request, 0)));
+    ///     }
+    /// }
+    /// ```
+    fn requests(&self, requests: Vec<Request>) {
+        requests.into_iter().for_each(|request| self.request(request));
+    }
 
     /// A queue of `taken_queues` has requests: for the first time since it was started, or since the device wanted one and found none.
     fn available(&self, _queue: usize, _taker: &Taker) {}
@@ -150,6 +200,45 @@ pub trait Device: Send + Sync {
 
     /// The backend channel. It stays open until the session ends, also where it is dropped here.
     fn channel(&self, _channel: Backend) {}
+
+    /// The frontend gives a pipe, by which the device's state goes to it or comes from it, and the device has it from here on: a thread of its own
+    /// writes or reads it, since the frontend waits for the reply to this, and closes it behind the last byte by
+    /// [`close_at_once`], since a frontend may give what is slow to close. It may return another file for that.
+    /// The specification has a frontend stop all queues before. DEVICE_STATE is among the protocol features then. Unsupported, as at first: it
+    /// has no state to be moved.
+    fn set_device_state_fd(
+        &self,
+        _direction: VhostTransferStateDirection,
+        _phase: VhostTransferStatePhase,
+        file: File,
+    ) -> io::Result<Option<File>> {
+        close_at_once(file);
+        Err(io::ErrorKind::Unsupported.into())
+    }
+
+    /// Whether all of its state was written, or read and taken. The frontend asks that once its end of the pipe is closed, and nothing else of the
+    /// session is done until this returns.
+    fn check_device_state(&self) -> io::Result<()> {
+        Err(io::ErrorKind::Unsupported.into())
+    }
+
+    /// The object of this name, which the device told of by
+    /// [`shared_object_add`](crate::vhost_user::VhostUserFrontendReqHandler::shared_object_add) on its
+    /// channel. SHARED_OBJECT is among the protocol features then. Unsupported, as at first: it has none.
+    fn get_shared_object(&self, _uuid: VhostUserSharedMsg) -> io::Result<File> {
+        Err(io::ErrorKind::Unsupported.into())
+    }
+
+    /// Its regions of shared memory, of which it maps parts by `shmem_map` on its channel. SHMEM is among the protocol features then. It has none
+    /// at first.
+    fn get_shmem_config(&self) -> io::Result<VhostUserShMemConfig> {
+        Ok(VhostUserShMemConfig::default())
+    }
+
+    /// The channel to a display, which a device with a screen draws on. Unsupported, as at first: it has none.
+    fn set_gpu_socket(&self, _gpu_backend: GpuBackend) -> io::Result<()> {
+        Err(io::ErrorKind::Unsupported.into())
+    }
 
     /// A request of the frontend, by its number, was refused, or ended the session.
     fn refused(&self, _request: Option<u32>, _error: &Error) {}
@@ -178,8 +267,20 @@ impl<D: Device + ?Sized> Device for Arc<D> {
     fn taken_queues(&self) -> u64 {
         (**self).taken_queues()
     }
+    fn max_queue_size(&self) -> u16 {
+        (**self).max_queue_size()
+    }
+    fn calls_by_pipe(&self) -> bool {
+        (**self).calls_by_pipe()
+    }
+    fn burst(&self) -> usize {
+        (**self).burst()
+    }
     fn request(&self, request: Request) {
         (**self).request(request)
+    }
+    fn requests(&self, requests: Vec<Request>) {
+        (**self).requests(requests)
     }
     fn available(&self, queue: usize, taker: &Taker) {
         (**self).available(queue, taker)
@@ -201,6 +302,26 @@ impl<D: Device + ?Sized> Device for Arc<D> {
     }
     fn channel(&self, channel: Backend) {
         (**self).channel(channel)
+    }
+    fn set_device_state_fd(
+        &self,
+        direction: VhostTransferStateDirection,
+        phase: VhostTransferStatePhase,
+        file: File,
+    ) -> io::Result<Option<File>> {
+        (**self).set_device_state_fd(direction, phase, file)
+    }
+    fn check_device_state(&self) -> io::Result<()> {
+        (**self).check_device_state()
+    }
+    fn get_shared_object(&self, uuid: VhostUserSharedMsg) -> io::Result<File> {
+        (**self).get_shared_object(uuid)
+    }
+    fn get_shmem_config(&self) -> io::Result<VhostUserShMemConfig> {
+        (**self).get_shmem_config()
+    }
+    fn set_gpu_socket(&self, gpu_backend: GpuBackend) -> io::Result<()> {
+        (**self).set_gpu_socket(gpu_backend)
     }
     fn refused(&self, request: Option<u32>, error: &Error) {
         (**self).refused(request, error)

@@ -1,5 +1,6 @@
 // SPDX-License-Identifier: Apache-2.0
 //! A request that the device has.
+use std::fmt;
 use std::ops::{Deref, DerefMut};
 use std::sync::Arc;
 
@@ -37,9 +38,29 @@ impl Request {
         self.finish(written);
     }
 
+    /// The same of many, each with how many bytes were written of it. Those of one queue that come side by side are given back together: its driver
+    /// sees all of them at once, and is told once. They may be in any order, and of any queues and sessions.
+    pub fn complete_all(done: impl IntoIterator<Item = (Request, u32)>) {
+        // (what makes them may complete others, and is through before a lock is taken)
+        let mut done: Vec<(Request, u32)> = done.into_iter().collect();
+        done.iter_mut().for_each(|(request, _)| request.is_done = true);
+        let mut rest = &done[..];
+        while let [(first, _), ..] = rest {
+            let alike = rest.iter().take_while(|(it, _)| it.is_beside(first)).count();
+            let (together, others) = rest.split_at(alike);
+            first.shared.complete(first.queue, together.iter().map(|(request, written)| (&request.chain, *written)));
+            rest = others;
+        }
+    }
+
+    /// Whether another is of the same queue of the same session.
+    fn is_beside(&self, other: &Request) -> bool {
+        self.queue == other.queue && Arc::ptr_eq(&self.shared, &other.shared)
+    }
+
     fn finish(&mut self, written: u32) {
         self.is_done = true;
-        self.shared.complete(self.queue, &self.chain, written);
+        self.shared.complete(self.queue, [(&self.chain, written)].into_iter());
     }
 }
 
@@ -48,6 +69,12 @@ impl Drop for Request {
         if !self.is_done {
             self.finish(0);
         }
+    }
+}
+
+impl fmt::Debug for Request {
+    fn fmt(&self, f: &mut fmt::Formatter<'_>) -> fmt::Result {
+        f.debug_struct("Request").field("queue", &self.queue).field("chain", &self.chain).finish_non_exhaustive()
     }
 }
 

@@ -1,17 +1,19 @@
 // SPDX-License-Identifier: Apache-2.0
 //! A session's event loop, and its life.
-use std::io;
 use std::os::unix::io::{AsRawFd, RawFd};
 use std::os::unix::net::UnixStream;
 use std::sync::atomic::Ordering;
 use std::sync::{Arc, MutexGuard};
 use std::time::{Duration, Instant};
+use std::{fmt, io};
 
 use super::calls::Calls;
 use super::shared::{Shared, State, Stop, SOCKET, STOP, TIMER, WAKE};
-use super::{Device, Ended, Request, Taker, MAX_QUEUES};
-use crate::foreign::{unblock_faults, Watch};
-use crate::queue;
+use super::{Device, Ended, Request, Taker, MAX_BURST, MAX_QUEUES};
+use crate::foreign::{apart, unblock_faults, Watch};
+use crate::queue::{self, DescriptorChain, GuestMemory};
+use crate::reasons;
+use crate::telling::{self, Level};
 use crate::vhost_user::message::FrontendReq;
 use crate::vhost_user::{BackendReqHandler, Error, Listener};
 
@@ -21,6 +23,9 @@ const MOST_CALLS: usize = 256;
 const TURN: Duration = Duration::from_millis(1);
 /// How often rings that are looked at are served before all else has its turn.
 const MOST_TURNS: usize = 16;
+/// How many regions, and of how many bytes, are unmapped at once at a session's end.
+const FEW_REGIONS: usize = 16;
+const FEW_BYTES: u64 = 1 << 20;
 /// How often a ring without a kick is looked at.
 const LOOK: Duration = Duration::from_millis(1);
 
@@ -37,6 +42,8 @@ pub struct Session<D: Device> {
     /// The ring that is served first, since time was over before.
     first_ring: usize,
     ended: Option<Arc<Ended>>,
+    /// The request that came last, and whether it ended amid its body.
+    last: (Option<u32>, bool),
 }
 
 /// Ends a [`Session`], from any thread, and from a signal handler.
@@ -48,6 +55,12 @@ impl Stopper {
     pub fn stop(&self) {
         self.0.is_stopped.store(true, Ordering::SeqCst);
         self.0.event.set();
+    }
+}
+
+impl fmt::Debug for Stopper {
+    fn fmt(&self, f: &mut fmt::Formatter<'_>) -> fmt::Result {
+        f.debug_struct("Stopper").field("is_stopped", &self.0.is_stopped).finish_non_exhaustive()
     }
 }
 
@@ -82,7 +95,8 @@ impl<D: Device> Session<D> {
             BackendReqHandler::from_stream(socket, Arc::new(Calls::new(device.clone(), shared.clone(), frontend, signals)));
         handler.set_reply_timeout(Some(Duration::ZERO));
         shared.polled.add(&handler, SOCKET)?;
-        Ok(Session { device, shared, handler: Some(handler), is_called: true, waits: None, first_ring: 0, ended: None })
+        let (handler, last) = (Some(handler), (None, false));
+        Ok(Session { device, shared, handler, is_called: true, waits: None, first_ring: 0, ended: None, last })
     }
 
     /// By what requests of its queues are taken.
@@ -101,6 +115,7 @@ impl<D: Device> Session<D> {
     pub fn handle_events(&mut self) -> Option<&Ended> {
         unblock_faults();
         let end = Instant::now() + TURN;
+        self.shared.lock().is_waiting = false;
         self.serve_what_is_ready();
         for _ in 1..MOST_TURNS {
             if self.has_ended() || Instant::now() >= end || !self.busy_poll() {
@@ -115,6 +130,7 @@ impl<D: Device> Session<D> {
             }
         }
         self.tell_end();
+        self.shared.lock().is_waiting = true;
         self.ended.as_deref()
     }
 
@@ -217,27 +233,46 @@ impl<D: Device> Session<D> {
                 self.waits = Some(call);
                 return false;
             }
-            Ok(call) => handler.answer(call),
+            Ok(call) => {
+                let answered = handler.answer(call);
+                self.say_refused(&answered);
+                answered
+            }
             Err(error) => Err(error),
         };
         self.tell_refused(answered);
         true
     }
 
-    /// Tells the device what was refused, and whether the frontend is gone by that.
-    fn tell_refused(&mut self, answered: Result<(), Error>) {
+    /// Has a line say why the device refused a call.
+    fn say_refused(&mut self, answered: &Result<(), Error>) {
         let handler = match &self.handler {
             Some(handler) => handler,
             None => return,
         };
-        let has_refused = handler.device().take_refused();
+        match (handler.device().take_reason(), answered) {
+            (Some(reason), _) => telling::refused(handler.last_request(), || reason),
+            (None, Ok(()) | Err(Error::SocketBroken(_) | Error::SocketError(_))) => {}
+            (None, Err(error)) => telling::refused(handler.last_request(), || telling::reason_of(error)),
+        }
+    }
+
+    /// Tells the device what was refused, and whether the frontend is gone by that.
+    fn tell_refused(&mut self, answered: Result<(), Error>) {
+        let handler = match &mut self.handler {
+            Some(handler) => handler,
+            None => return,
+        };
+        let (request, told) = (handler.last_request(), handler.take_told());
+        self.last = (request, handler.is_cut());
+        let has_ended = handler.has_ended();
         match answered {
-            Ok(()) if has_refused => self.device.refused(handler.last_request(), &Error::BackendInternalError),
+            Ok(()) if told.is_some() => self.device.refused(request, &Error::BackendInternalError),
             Ok(()) => {}
             Err(Error::Disconnected) => self.end(Ended::Frontend(Error::Disconnected)),
             Err(error) => {
-                self.device.refused(handler.last_request(), &error);
-                if handler.has_ended() {
+                self.device.refused(request, &error);
+                if has_ended {
                     self.end(Ended::Frontend(error));
                 }
             }
@@ -268,9 +303,11 @@ impl<D: Device> Session<D> {
 
     /// Hands out as many requests as the ring has room for, and one more, until that time.
     fn serve_requests(&self, index: usize, size: u16, end: Instant) {
-        for _ in 0..=size {
-            if !self.serve_request(index) {
-                return;
+        let (most, mut done) = (self.device.burst().clamp(1, MAX_BURST), 0);
+        while done <= size.into() {
+            match self.serve_burst(index, most, end) {
+                Some(count) => done += count.max(1),
+                None => return,
             }
             if Instant::now() >= end {
                 break;
@@ -279,31 +316,34 @@ impl<D: Device> Session<D> {
         self.shared.lock().rings[index].is_due = true;
     }
 
-    /// Hands the next request to the device, if there is one. Whether there may be another.
-    fn serve_request(&self, index: usize) -> bool {
+    /// Hands the next requests to the device, if there are some: how many there were. None: there is no other.
+    fn serve_burst(&self, index: usize, most: usize, end: Instant) -> Option<usize> {
         let mut state = self.shared.lock();
         if self.shared.has_ended(&mut state) || !state.is_running(index) {
-            return false;
+            return None;
         }
-        let queue = &mut state.rings[index].queue;
-        let popped = queue.pop();
-        if self.shared.holder.has_lost() {
-            return false; // what was read may be zeros that nobody wrote
+        let (taken, why) = self.shared.take_burst(&mut state, index, most, end);
+        let count = taken.len();
+        if count == 0 && why.is_ok() {
+            let goes_on = !self.shared.holder.has_lost() && state.empty(index, self.device.busy_poll());
+            return goes_on.then_some(0);
         }
-        match popped {
-            Ok(None) => state.empty(index, self.device.busy_poll()),
-            Ok(Some(chain)) => {
-                // (before the device, which may be done with it at once)
-                state.count_out(index);
-                drop(state);
-                self.device.request(Request::new(chain, self.shared.clone(), index));
-                true
-            }
-            Err(error) => {
-                state.rings[index].is_broken = true;
-                self.tell_broken(state, index, error);
-                false
-            }
+        drop(state);
+        self.hand_out(index, most, taken);
+        if let Err(error) = why {
+            self.tell_broken(self.shared.lock(), index, error);
+            return None;
+        }
+        Some(count)
+    }
+
+    /// The device has these requests, one by one where it wants no more at once.
+    fn hand_out(&self, index: usize, most: usize, taken: Vec<DescriptorChain>) {
+        let requests = taken.into_iter().map(|chain| Request::new(chain, self.shared.clone(), index));
+        if most == 1 {
+            requests.for_each(|request| self.device.request(request));
+        } else if requests.len() != 0 {
+            self.device.requests(requests.collect());
         }
     }
 
@@ -346,6 +386,7 @@ impl<D: Device> Session<D> {
             return state.end(Ended::OutOfMemory);
         }
         drop(state);
+        telling::say(Level::Error, || reasons::broken(index as u32, error));
         self.device.broken(index, error);
     }
 
@@ -399,6 +440,23 @@ impl<D: Device> Session<D> {
             ring.error = None;
         }
         (state.log, state.inflight, state.channel, state.waits) = (None, None, None, false);
+        drop(state);
+        // (the system takes memory back page by page)
+        let is_large = |it: &GuestMemory| it.num_regions() > FEW_REGIONS || it.size() > FEW_BYTES;
+        if memory.as_ref().map_or(false, is_large) {
+            apart(move || drop(memory));
+        }
+    }
+
+    /// Has a line say who ended it.
+    fn say_end(&self, why: &Ended) {
+        let (request, is_cut) = self.last;
+        match why {
+            Ended::Frontend(error) => telling::ended(request, is_cut, error),
+            Ended::Stopped => telling::say(Level::Info, || reasons::STOPPED.to_string()),
+            Ended::MemoryLost => telling::say(Level::Error, || reasons::MEMORY_TAKEN.to_string()),
+            Ended::OutOfMemory => telling::ended_here(request, why),
+        }
     }
 
     /// Says once that the session has ended, and all its requests. What it waits for stays ready from then on.
@@ -409,9 +467,16 @@ impl<D: Device> Session<D> {
             _ => return,
         };
         drop(state);
+        self.say_end(&why);
         self.device.ended(&why);
         self.shared.stop.event.set();
         self.ended = Some(why);
+    }
+}
+
+impl<D: Device> fmt::Debug for Session<D> {
+    fn fmt(&self, f: &mut fmt::Formatter<'_>) -> fmt::Result {
+        f.debug_struct("Session").field("frontend", &self.frontend()).field("ended", &self.ended).finish_non_exhaustive()
     }
 }
 

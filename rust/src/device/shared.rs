@@ -1,8 +1,10 @@
 // SPDX-License-Identifier: Apache-2.0
 //! What a session holds: behind a lock, which is let go of while the device is called, since a request is completed from any thread.
+use std::collections::BTreeMap;
 use std::io;
 use std::sync::atomic::{AtomicBool, Ordering};
 use std::sync::{Arc, Mutex, MutexGuard, PoisonError};
+use std::thread::available_parallelism;
 use std::time::{Duration, Instant};
 
 use super::arrival::Arrival;
@@ -17,6 +19,9 @@ pub(super) const SOCKET: u32 = 0x100;
 pub(super) const WAKE: u32 = 0x101;
 pub(super) const STOP: u32 = 0x102;
 pub(super) const TIMER: u32 = 0x103;
+
+/// How many parts of requests are taken before the clock is looked at; a request is an eighth of that, beside its own.
+const LOOK_AFTER: usize = 64;
 
 /// By what a session is stopped.
 pub(super) struct Stop {
@@ -62,12 +67,18 @@ pub(super) struct Ring {
     pub(super) out: usize,
 }
 
+/// Where a region lies for the guest and for its frontend, and its size.
+pub(super) type Place = (u64, u64, u64);
+
 pub(super) struct State {
     pub(super) rings: Vec<Ring>,
     /// What was accepted.
     pub(super) features: u64,
     pub(super) protocol_features: u64,
     pub(super) memory: Option<GuestMemory>,
+    /// How often regions of it were given once more, and not taken back: QEMU before 8.1 gives each once for each pair of a card's queues, and
+    /// takes it back as often.
+    pub(super) again: BTreeMap<Place, usize>,
     pub(super) log: Option<DirtyLog>,
     pub(super) inflight: Option<InflightRegion>,
     pub(super) arrival: Option<Arrival>,
@@ -77,6 +88,10 @@ pub(super) struct State {
     pub(super) out: usize,
     /// Whether a call waits for some of them.
     pub(super) waits: bool,
+    /// No turn is under way.
+    pub(super) is_waiting: bool,
+    /// Whoever serves requests has the processor of this session, and no other.
+    is_on_one_processor: bool,
     pub(super) is_timed: bool,
     pub(super) why: Option<Arc<Ended>>,
 }
@@ -109,12 +124,15 @@ impl Shared {
             features: 0,
             protocol_features: 0,
             memory: None,
+            again: BTreeMap::new(),
             log: None,
             inflight: None,
             arrival: None,
             channel: None,
             out: 0,
             waits: false,
+            is_waiting: false,
+            is_on_one_processor: available_parallelism().map_or(false, |count| count.get() == 1),
             is_timed: false,
             why: None,
         };
@@ -142,37 +160,73 @@ impl Shared {
         state.why.is_some()
     }
 
-    /// Takes the next request of a queue that the device takes from. None: there is none, or none to be taken.
-    pub(super) fn take(&self, index: usize) -> Option<DescriptorChain> {
-        let mut state = self.lock();
-        if !state.rings.get(index)?.is_taken_of || self.has_ended(&mut state) {
-            return None;
+    /// Takes the next requests of a queue that the device takes from, so many at most. None: there is none, or none to be taken.
+    pub(super) fn take(&self, index: usize, most: usize) -> Vec<DescriptorChain> {
+        let (mut state, mut taken) = (self.lock(), Vec::new());
+        let is_taken_of = state.rings.get(index).map_or(false, |ring| ring.is_taken_of);
+        if !is_taken_of || self.has_ended(&mut state) {
+            return taken;
         }
-        let taken = state.take(index);
-        if self.holder.has_lost() {
-            return None; // what was read may be zeros that nobody wrote
+        while taken.len() < most {
+            let next = state.take(index);
+            if next.is_none() || self.holder.has_lost() {
+                break; // (what was read may be zeros that nobody wrote)
+            }
+            state.count_out(index);
+            taken.extend(next);
         }
         if state.rings[index].broken_by.is_some() {
             self.holder.wake(); // nothing is called back from here
         }
-        if taken.is_some() {
-            state.count_out(index);
-        }
         taken
     }
 
-    /// Gives a request back, of which so many bytes were written. Where the session has ended meanwhile nobody is told.
-    pub(super) fn complete(&self, index: usize, chain: &DescriptorChain, written: u32) {
+    /// Takes the next requests of a ring that runs, so many at most, and until that time. An error: the driver broke a rule behind these.
+    pub(super) fn take_burst(
+        &self,
+        state: &mut State,
+        index: usize,
+        most: usize,
+        end: Instant,
+    ) -> (Vec<DescriptorChain>, Result<(), Error>) {
+        let (mut taken, mut since_look) = (Vec::with_capacity(most), 0);
+        while taken.len() < most {
+            let popped = state.rings[index].queue.pop();
+            if self.holder.has_lost() {
+                break; // (as above)
+            }
+            match popped {
+                Ok(Some(chain)) => {
+                    // (before the device, which may be done with it at once)
+                    state.count_out(index);
+                    since_look += LOOK_AFTER / 8 + chain.parts();
+                    taken.push(chain);
+                }
+                Ok(None) => break,
+                Err(error) => {
+                    state.rings[index].is_broken = true;
+                    return (taken, Err(error));
+                }
+            }
+            if since_look >= LOOK_AFTER && Instant::now() >= end {
+                break;
+            }
+            since_look %= LOOK_AFTER;
+        }
+        (taken, Ok(()))
+    }
+
+    /// Gives requests of a queue back, of which so many bytes were written each. Where the session has ended meanwhile nobody is told.
+    pub(super) fn complete<'c>(&self, index: usize, done: impl Iterator<Item = (&'c DescriptorChain, u32)> + Clone) {
+        let count = done.clone().count();
         let mut state = self.lock();
         if !self.has_ended(&mut state) {
             let ring = &mut state.rings[index];
-            if ring.queue.add_used(chain, written).is_ok() && ring.queue.needs_notification() == Ok(true) {
+            if ring.queue.add_all_used(done) != 0 && ring.queue.needs_notification() == Ok(true) {
                 self.signal(&ring.call);
             }
         }
-        state.rings[index].out -= 1;
-        state.out -= 1;
-        if state.waits || state.why.is_some() {
+        if state.count_in(index, count) || state.waits || state.why.is_some() {
             self.holder.wake();
         }
     }
@@ -219,6 +273,21 @@ impl State {
         self.out += 1;
     }
 
+    /// The device has so many less. Whether a ring is to be looked at from now on that was not: where there is one processor alone, and these were the
+    /// last requests of a ring whose next one comes soon.
+    fn count_in(&mut self, index: usize, count: usize) -> bool {
+        let (is_running, ring) = (self.is_running(index), &mut self.rings[index]);
+        ring.out -= count;
+        self.out -= count;
+        if !self.is_on_one_processor || ring.out != 0 {
+            return false;
+        }
+        ring.empty = Instant::now();
+        let begins = self.is_waiting && ring.is_quick && is_running && !ring.is_taken_of;
+        ring.is_due |= begins;
+        begins
+    }
+
     /// Takes the next request of a ring; where there is none its driver tells of more.
     fn take(&mut self, index: usize) -> Option<DescriptorChain> {
         let is_running = self.is_running(index);
@@ -262,13 +331,15 @@ impl State {
         ring.is_quick = !busy_poll.is_zero() && ring.empty.elapsed() < busy_poll;
     }
 
-    /// A ring is empty. Whether it is to be served on.
+    /// A ring is empty. Whether it is to be served on. Where there is one processor alone it is not looked at while the device has a request of it,
+    /// since whoever serves that has no other.
     pub(super) fn empty(&mut self, index: usize, busy_poll: Duration) -> bool {
         let ring = &mut self.rings[index];
         if !busy_poll.is_zero() {
             ring.empty = Instant::now();
         }
-        ring.watch = ring.queue.watch().filter(|_| ring.is_quick && ring.queue.disable_notification().is_ok());
+        let may_look = ring.is_quick && (ring.out == 0 || !self.is_on_one_processor);
+        ring.watch = ring.queue.watch().filter(|_| may_look && ring.queue.disable_notification().is_ok());
         ring.watch.is_none() && ring.queue.enable_notification() == Ok(true)
     }
 
@@ -313,6 +384,9 @@ impl State {
                 return Err(error);
             }
             ring.is_due = ring.queue.ready();
+        }
+        if matches!(change, Change::All) {
+            self.again.clear();
         }
         self.memory = Some(memory);
         Ok(())

@@ -1,5 +1,6 @@
 // SPDX-License-Identifier: Apache-2.0
 //! Queues that a device takes from.
+use std::fmt;
 use std::sync::{Arc, Weak};
 
 use super::shared::Shared;
@@ -19,7 +20,25 @@ impl Taker {
     /// once it has; or it is no queue that is taken from, or stopped, or the session has ended.
     pub fn take(&self, queue: usize) -> Option<Request> {
         let shared = self.0.upgrade()?;
-        let chain = shared.take(queue)?;
+        let chain = shared.take(queue, 1).pop()?;
         Some(Request::new(chain, shared, queue))
+    }
+
+    /// The next requests of a queue, so many at most: as many as there are. None is waited for; where there are fewer, [`available`] tells of the
+    /// next one.
+    ///
+    /// [`available`]: super::Device::available
+    pub fn take_many(&self, queue: usize, most: usize) -> Vec<Request> {
+        let taken = self.0.upgrade().map(|shared| (shared.take(queue, most), shared));
+        let requests = taken
+            .into_iter()
+            .flat_map(|(chains, shared)| chains.into_iter().map(move |chain| Request::new(chain, shared.clone(), queue)));
+        requests.collect()
+    }
+}
+
+impl fmt::Debug for Taker {
+    fn fmt(&self, f: &mut fmt::Formatter<'_>) -> fmt::Result {
+        f.debug_struct("Taker").field("has_session", &(self.0.strong_count() != 0)).finish_non_exhaustive()
     }
 }

@@ -9,8 +9,12 @@ use std::net::Shutdown;
 use std::ops::Deref;
 use std::os::unix::io::{AsFd, AsRawFd, BorrowedFd, FromRawFd, OwnedFd, RawFd};
 use std::os::unix::net::UnixStream;
+use std::process::id;
+use std::sync::atomic::{AtomicU64, Ordering};
+use std::thread::Builder;
 
-use super::socket::{lingers, peek, set_option, Received};
+use super::events::without_signals;
+use super::socket::{has_unread, is_filtered, lingers, peek, set_option, Received};
 
 /// A descriptor that a peer sent. Nobody here chose what it is of, so it is closed as `drop` says, until it becomes a `File` or an
 /// `OwnedFd`.
@@ -76,7 +80,7 @@ const MOST_QUEUED: usize = 0x400;
 /// A connected socket. What came and was not received may have descriptors, and those linger, too.
 #[derive(Debug)]
 pub(crate) struct PeerSocket {
-    stream: UnixStream,
+    stream: ManuallyDrop<UnixStream>,
     is_given: bool,
 }
 
@@ -94,7 +98,7 @@ impl PeerSocket {
     /// What is sent by MSG_OOB is received in its place: the system closes the descriptors of what is left out, and waits for them.
     fn new(stream: UnixStream, is_given: bool) -> PeerSocket {
         let _ = set_option(&stream, libc::SO_OOBINLINE, &1);
-        PeerSocket { stream, is_given }
+        PeerSocket { stream: ManuallyDrop::new(stream), is_given }
     }
 
     /// Nothing more is sent or comes, whoever has a copy of it; but for one that the peer gave, which stays as it is.
@@ -106,23 +110,70 @@ impl PeerSocket {
 }
 
 impl Drop for PeerSocket {
-    /// The system closes the descriptors that wait in the socket within `close`: so no socket among them lingers any more. What waits
-    /// stays there, for whoever has a copy of the socket.
     fn drop(&mut self) {
-        let (mut room, mut fds) = ([0; 4096], Vec::new());
-        let is_empty = !matches!(peek(&self.stream, &mut room, &mut fds), Ok(Received { count: 1.., .. }));
-        fds.clear();
-        if is_empty || set_option(&self.stream, libc::SO_PEEK_OFF, &0).is_err() {
-            return;
+        // SAFETY: nobody has it any more.
+        let stream = unsafe { ManuallyDrop::take(&mut self.stream) };
+        match self.is_given {
+            true => close_given(stream),
+            false => calm_unread(&stream),
         }
-        for _ in 0..MOST_QUEUED {
-            match peek(&self.stream, &mut room, &mut fds) {
-                Ok(Received { count: 1.., .. }) => fds.clear(),
-                _ => break,
-            }
-        }
-        let _ = set_option(&self.stream, libc::SO_PEEK_OFF, &-1);
     }
+}
+
+/// The system closes the descriptors that wait in a socket within `close`: so no socket among them lingers any more. What waits stays
+/// there, for whoever has a copy of the socket.
+fn calm_unread(stream: &UnixStream) {
+    let (mut room, mut fds) = ([0; 4096], Vec::new());
+    let is_empty = !matches!(peek(stream, &mut room, &mut fds), Ok(Received { count: 1.., .. }));
+    fds.clear();
+    if is_empty || set_option(stream, libc::SO_PEEK_OFF, &0).is_err() {
+        return;
+    }
+    for _ in 0..MOST_QUEUED {
+        match peek(stream, &mut room, &mut fds) {
+            Ok(Received { count: 1.., .. }) => fds.clear(),
+            _ => break,
+        }
+    }
+    let _ = set_option(stream, libc::SO_PEEK_OFF, &-1);
+}
+
+/// A peer that has a copy of the socket can read from it into memory that does not come: whoever looks at what waits there waits as long,
+/// and no signal ends that. So a thread does. (A filter of the program's own may know neither of a thread nor of the call that asks what waits.)
+fn close_given(stream: UnixStream) {
+    if !is_filtered() && has_unread(&stream) {
+        apart(move || calm_unread(&stream));
+    }
+}
+
+/// Does what takes long in a thread that nobody waits for. There are so many at most, and else it is not done: what it has is dropped. (A
+/// filter of the program's own may know of no thread.)
+pub(crate) fn apart(work: impl FnOnce() + Send + 'static) {
+    if is_filtered() || !begin_closing() {
+        return;
+    }
+    let works = move || {
+        work();
+        CLOSING.fetch_sub(1, Ordering::SeqCst);
+    };
+    if without_signals(|| Builder::new().stack_size(CLOSING_STACK).spawn(works)).is_err() {
+        CLOSING.fetch_sub(1, Ordering::SeqCst);
+    }
+}
+
+const MOST_CLOSING: u64 = 64;
+const CLOSING_STACK: usize = 1 << 17;
+/// How many such threads there are, in the lower half, and of which process: a child of `fork` has none of its parent's.
+static CLOSING: AtomicU64 = AtomicU64::new(0);
+
+/// Whether there may be one more.
+fn begin_closing() -> bool {
+    let process = u64::from(id()) << 32;
+    let more = |it: u64| match it.checked_sub(process) {
+        Some(count) if count <= MOST_CLOSING => (count < MOST_CLOSING).then_some(it + 1),
+        _ => Some(process + 1),
+    };
+    CLOSING.fetch_update(Ordering::SeqCst, Ordering::SeqCst, more).is_ok()
 }
 
 impl Deref for PeerSocket {

@@ -208,10 +208,13 @@ pub(crate) enum Bell {
 }
 
 impl Bell {
-    /// None: it is none of them, or another user's pipe.
-    pub(crate) fn of(fd: PeerFd) -> Option<Bell> {
+    /// None: it is none of them, or another user's pipe; or it is no eventfd, and `takes_streams` is not so.
+    pub(crate) fn of(fd: PeerFd, takes_streams: bool) -> Option<Bell> {
         if is_kind(&fd, EVENTFD) {
             return Some(Bell::Eventfd(fd));
+        }
+        if !takes_streams {
+            return None;
         }
         if is_unix_stream(&fd).unwrap_or(false) {
             return Some(Bell::Socket(PeerSocket::given(UnixStream::from(OwnedFd::from(fd)))));

@@ -1,7 +1,6 @@
 // SPDX-License-Identifier: Apache-2.0
 //! Memory that a frontend gave: its files are mapped, and read and written by volatile and atomic accesses alone, since whoever shares
 //! them writes there at any time. What takes it away again is `guard`'s.
-use std::io;
 use std::marker::PhantomData;
 use std::mem::zeroed;
 use std::ops::Deref;
@@ -9,6 +8,7 @@ use std::os::unix::io::AsRawFd;
 use std::ptr::null_mut;
 use std::sync::atomic::{AtomicBool, AtomicU16, AtomicU32, AtomicU64, AtomicU8, Ordering};
 use std::sync::Arc;
+use std::{fmt, io};
 
 use super::guard::{take_faults, Holder, Place};
 use crate::queue::Error;
@@ -24,6 +24,8 @@ pub(crate) struct Mapping {
     all_size: usize,
     into: usize,
     size: usize,
+    /// Of which part of which file: its device, its number, and where that part begins.
+    part: (u64, u64, u64),
     /// Whether pages of it are waited for.
     pub(super) is_watched: AtomicBool,
     holder: Arc<Holder>,
@@ -34,9 +36,7 @@ impl Mapping {
     /// memory file: whoever serves its file system may not reply.
     pub(crate) fn new(holder: &Arc<Holder>, file: &impl AsRawFd, offset: u64, size: u64) -> io::Result<Mapping> {
         let fd = file.as_raw_fd();
-        if !has_bytes(fd, offset, size) {
-            return Err(io::ErrorKind::InvalidInput.into());
-        }
+        let about = memory_file(fd).filter(|about| has_bytes(about, offset, size)).ok_or(io::ErrorKind::InvalidInput)?;
         let page = page_of(fd);
         let into = offset % page;
         let (all_size, start) = ((into + size + page - 1) / page * page, (offset - into) as libc::off_t);
@@ -53,6 +53,7 @@ impl Mapping {
                 all_size: all_size as usize,
                 into: into as usize,
                 size: size as usize,
+                part: (about.st_dev, about.st_ino, offset),
                 is_watched: AtomicBool::new(false),
                 holder: holder.clone(),
             }),
@@ -66,6 +67,11 @@ impl Mapping {
 
     pub(crate) fn size(&self) -> u64 {
         self.size as u64
+    }
+
+    /// Whether another is of the same bytes of the same file.
+    pub(crate) fn is_of_same(&self, other: &Mapping) -> bool {
+        (self.part, self.size) == (other.part, other.size)
     }
 
     /// Where it is mapped.
@@ -184,16 +190,28 @@ fn page_of(fd: libc::c_int) -> u64 {
     }
 }
 
-fn has_bytes(fd: libc::c_int, offset: u64, size: u64) -> bool {
+/// What the system says of a memory file; None: it is none.
+fn memory_file(fd: libc::c_int) -> Option<libc::stat> {
     // SAFETY: zeros are a `struct stat`, which is borrowed for the call; the other asks for flags.
-    let length = unsafe {
+    unsafe {
         let mut about: libc::stat = zeroed();
-        if size == 0 || libc::fcntl(fd, libc::F_GET_SEALS) < 0 || libc::fstat(fd, &mut about) != 0 {
-            return false;
-        }
-        u64::try_from(about.st_size).unwrap_or(0)
-    };
-    offset <= length && size <= length - offset
+        let is_one = libc::fcntl(fd, libc::F_GET_SEALS) >= 0 && libc::fstat(fd, &mut about) == 0;
+        is_one.then_some(about)
+    }
+}
+
+fn length_of(about: &libc::stat) -> u64 {
+    u64::try_from(about.st_size).unwrap_or(0)
+}
+
+/// How many bytes a memory file has; None: it is none.
+pub(crate) fn memory_size(fd: libc::c_int) -> Option<u64> {
+    memory_file(fd).as_ref().map(length_of)
+}
+
+fn has_bytes(about: &libc::stat, offset: u64, size: u64) -> bool {
+    let length = length_of(about);
+    size != 0 && offset <= length && size <= length - offset
 }
 
 /// A region of guest memory, mapped.
@@ -259,6 +277,12 @@ unsafe impl Send for VolatileSlice<'_> {}
 
 // SAFETY: as above.
 unsafe impl Sync for VolatileSlice<'_> {}
+
+impl fmt::Debug for VolatileSlice<'_> {
+    fn fmt(&self, f: &mut fmt::Formatter<'_>) -> fmt::Result {
+        f.debug_struct("VolatileSlice").field("len", &self.len()).finish_non_exhaustive()
+    }
+}
 
 impl<'a> VolatileSlice<'a> {
     /// # Safety

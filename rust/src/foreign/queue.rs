@@ -4,34 +4,27 @@
 //! place is used while it is what the queue said, and the memory that it lies in is held.
 use std::os::raw::c_void;
 use std::ptr::null_mut;
-use std::sync::atomic::{fence, AtomicU16, AtomicU64, AtomicU8, Ordering};
+use std::sync::atomic::{fence, AtomicU16, Ordering};
 use std::sync::Arc;
 
+use super::descriptors::{copy, load_descriptor, Descriptor, Range, Segment, Table, Walked, COPIES, INDIRECT};
 use super::guard::take_faults;
 use super::guest::{Region as GuestRegion, Regions, Slices};
 use crate::queue::Error;
 
 /// `covretin_queue`.
 #[repr(C)]
-struct Raw {
-    opaque: *mut c_void,
+pub(super) struct Raw {
+    pub(super) opaque: *mut c_void,
 }
 
 /// `covretin_guest_region`.
 #[repr(C)]
-struct Region {
-    guest_addr: u64,
-    size: u64,
-    user_addr: u64,
-    host_addr: u64,
-}
-
-/// `covretin_range`.
-#[repr(C)]
-#[derive(Clone, Copy, Default)]
-pub(crate) struct Range {
-    pub(crate) addr: u64,
-    pub(crate) len: u64,
+pub(super) struct Region {
+    pub(super) guest_addr: u64,
+    pub(super) size: u64,
+    pub(super) user_addr: u64,
+    pub(super) host_addr: u64,
 }
 
 /// `covretin_split_ring`.
@@ -62,41 +55,22 @@ pub(crate) struct PackedRing {
     pub(crate) indirect_desc: bool,
 }
 
-/// `covretin_descriptor`.
-#[repr(C)]
-#[derive(Clone, Copy, Default)]
-pub(crate) struct Descriptor {
-    pub(crate) addr: u64,
-    pub(crate) len: u32,
-    pub(crate) third: u16,
-    pub(crate) fourth: u16,
-}
-
-/// `covretin_segment`.
-#[repr(C)]
-#[derive(Default)]
-struct Segment {
-    range: Range,
-    guest_addr: u64,
-    writable: bool,
-}
-
 /// `covretin_used`.
 #[repr(C)]
 #[derive(Default)]
-struct RawUsed {
-    elem: Range,
-    elem_value: u64,
-    then: Range,
-    then_value: u16,
+pub(super) struct RawUsed {
+    pub(super) elem: Range,
+    pub(super) elem_value: u64,
+    pub(super) then: Range,
+    pub(super) then_value: u16,
 }
 
 /// `covretin_event_write`.
 #[repr(C)]
 #[derive(Default)]
-struct EventWrite {
-    place: Range,
-    value: u32,
+pub(super) struct EventWrite {
+    pub(super) place: Range,
+    pub(super) value: u32,
 }
 
 /// `covretin_inflight_write`.
@@ -143,31 +117,42 @@ pub(crate) struct LogBit {
 }
 
 extern "C" {
-    fn covretin_queue_open(queue: &mut Raw) -> u32;
-    fn covretin_queue_close(queue: &mut Raw);
-    fn covretin_queue_set_regions(queue: &mut Raw, regions: *const Region, regions_len: usize) -> u32;
+    pub(super) fn covretin_queue_open(queue: &mut Raw) -> u32;
+    pub(super) fn covretin_queue_close(queue: &mut Raw);
+    pub(super) fn covretin_queue_set_regions(queue: &mut Raw, regions: *const Region, regions_len: usize) -> u32;
     fn covretin_queue_add_region(queue: &mut Raw, region: &Region) -> u32;
     fn covretin_queue_remove_region(queue: &mut Raw, guest_addr: u64, size: u64, user_addr: u64) -> u32;
     fn covretin_queue_translate(queue: &mut Raw, user: bool, addr: u64, len: u64, range: &mut Range) -> u32;
-    fn covretin_queue_start_split(queue: &mut Raw, ring: &SplitRing) -> u32;
+    pub(super) fn covretin_queue_start_split(queue: &mut Raw, ring: &SplitRing) -> u32;
     fn covretin_queue_start_packed(queue: &mut Raw, ring: &PackedRing) -> u32;
-    fn covretin_queue_move_split(queue: &mut Raw, desc_table: u64, avail_ring: u64, used_ring: u64) -> u32;
+    pub(super) fn covretin_queue_move_split(queue: &mut Raw, desc_table: u64, avail_ring: u64, used_ring: u64) -> u32;
     fn covretin_queue_move_packed(queue: &mut Raw, desc_ring: u64, driver_event: u64, device_event: u64) -> u32;
     fn covretin_queue_stop(queue: &mut Raw) -> u32;
     fn covretin_queue_base(queue: &mut Raw, base: &mut u32) -> u32;
-    fn covretin_queue_needs_reset(queue: &mut Raw, needs_reset: &mut bool) -> u32;
+    pub(super) fn covretin_queue_needs_reset(queue: &mut Raw, needs_reset: &mut bool) -> u32;
     fn covretin_queue_available_place(queue: &mut Raw, place: &mut Range) -> u32;
-    fn covretin_queue_available(queue: &mut Raw, value: u16, count: &mut u16) -> u32;
-    fn covretin_queue_head_place(queue: &mut Raw, place: &mut Range) -> u32;
-    fn covretin_queue_pop(queue: &mut Raw, head: u16) -> u32;
-    fn covretin_queue_resubmit(queue: &mut Raw, head: u16) -> u32;
+    pub(super) fn covretin_queue_available(queue: &mut Raw, value: u16, count: &mut u16) -> u32;
+    pub(super) fn covretin_queue_head_place(queue: &mut Raw, place: &mut Range) -> u32;
+    pub(super) fn covretin_queue_pop(queue: &mut Raw, head: u16) -> u32;
+    pub(super) fn covretin_queue_resubmit(queue: &mut Raw, head: u16) -> u32;
+    pub(super) fn covretin_queue_give_back(queue: &mut Raw, head: u16) -> u32;
+    pub(super) fn covretin_queue_adopt(queue: &mut Raw, head: u16) -> u32;
     fn covretin_queue_resubmit_packed(queue: &mut Raw) -> u32;
     fn covretin_queue_descriptor_place(queue: &mut Raw, place: &mut Range, found: &mut bool) -> u32;
     fn covretin_queue_step(queue: &mut Raw, descriptor: &Descriptor, segment: &mut Segment, found: &mut bool) -> u32;
-    fn covretin_queue_add_used(queue: &mut Raw, id: u16, len: u32, used: &mut RawUsed) -> u32;
-    fn covretin_queue_notification_place(queue: &mut Raw, place: &mut Range) -> u32;
-    fn covretin_queue_needs_notification(queue: &mut Raw, value: u16, flags: u16, needed: &mut bool) -> u32;
-    fn covretin_queue_set_notification(queue: &mut Raw, enable: bool, write: &mut EventWrite) -> u32;
+    pub(super) fn covretin_queue_table(queue: &mut Raw, table: &mut Table) -> u32;
+    pub(super) fn covretin_queue_walk(
+        queue: &mut Raw,
+        copies: *const Descriptor,
+        copies_len: usize,
+        segments: *mut Segment,
+        segments_len: usize,
+        walked: &mut Walked,
+    ) -> u32;
+    pub(super) fn covretin_queue_add_used(queue: &mut Raw, id: u16, len: u32, used: &mut RawUsed) -> u32;
+    pub(super) fn covretin_queue_notification_place(queue: &mut Raw, place: &mut Range) -> u32;
+    pub(super) fn covretin_queue_needs_notification(queue: &mut Raw, value: u16, flags: u16, needed: &mut bool) -> u32;
+    pub(super) fn covretin_queue_set_notification(queue: &mut Raw, enable: bool, write: &mut EventWrite) -> u32;
     fn covretin_inflight_take(head: u16, counter: u64, first: &mut InflightWrite, second: &mut InflightWrite);
     fn covretin_inflight_before_used(head: u16, last: u16, first: &mut InflightWrite, second: &mut InflightWrite);
     fn covretin_inflight_after_used(head: u16, idx: u16, first: &mut InflightWrite, second: &mut InflightWrite);
@@ -218,7 +203,8 @@ extern "C" {
     fn covretin_log_bit_of(page: u64, bit: &mut LogBit);
 }
 
-fn outcome(number: u32) -> Result<(), Error> {
+#[inline]
+pub(super) fn outcome(number: u32) -> Result<(), Error> {
     match number {
         0 => Ok(()),
         number => Err(Error::of_number(number)),
@@ -239,6 +225,26 @@ pub(crate) struct Chain {
     pub(crate) written: Vec<(u64, u64)>,
     /// The id of the last descriptor before the chain's end or an indirect table: a packed queue's chain is used by it.
     pub(crate) id: u16,
+}
+
+impl Chain {
+    /// Has one part more. ChainTooLong: it has as many already.
+    ///
+    /// # Safety
+    ///
+    /// The part lies in one of the regions of the slices.
+    unsafe fn push(&mut self, segment: &Segment, most: usize) -> Result<(), Error> {
+        if self.slices.count() == most {
+            return Err(Error::ChainTooLong);
+        }
+        // SAFETY: as the caller says.
+        unsafe { self.slices.push(segment.range.addr, segment.range.len) };
+        match segment.writable {
+            true => self.written.push((segment.guest_addr, segment.range.len)),
+            false => self.readable += 1,
+        }
+        Ok(())
+    }
 }
 
 /// What was written where a chain was used.
@@ -440,8 +446,40 @@ impl CoreQueue {
         outcome(unsafe { covretin_queue_resubmit_packed(&mut self.raw) })
     }
 
-    /// Follows a chain to its end. `in_ring` is told each descriptor that is in no indirect table, and says which one is followed. ChainTooLong:
-    /// it has more than so many parts.
+    /// Follows a chain to its end, of a packed queue or of a split one, by copies of its descriptors. ChainTooLong: it has more than so many
+    /// parts.
+    pub(crate) fn walk(&mut self, most: usize, is_packed: bool) -> Result<Chain, Error> {
+        let mut chain = Chain { slices: Slices::of(self.seen.clone()), readable: 0, written: Vec::new(), id: 0 };
+        let mut copies = [Descriptor::default(); COPIES];
+        let (mut walked, mut is_indirect) = (Walked::default(), false);
+        // SAFETY: as above.
+        outcome(unsafe { covretin_queue_table(&mut self.raw, &mut walked.table) })?;
+        while walked.table.goes_on {
+            // SAFETY: as above; the table is of `rings`, or of `seen`.
+            let count = unsafe { copy(&walked.table, is_packed, is_indirect, &mut copies) };
+            let (mut taken, last) = (0, copies[count - 1]);
+            while taken < count {
+                let mut segments = [Segment::default(); COPIES];
+                let given = &copies[taken..count];
+                // SAFETY: as above; the lengths are those of the arrays.
+                outcome(unsafe {
+                    covretin_queue_walk(&mut self.raw, given.as_ptr(), given.len(), segments.as_mut_ptr(), COPIES, &mut walked)
+                })?;
+                taken += walked.taken;
+                for segment in &segments[..walked.count] {
+                    // SAFETY: as above; the slices hold `seen`.
+                    unsafe { chain.push(segment, most) }?;
+                }
+            }
+            if !is_indirect {
+                chain.id = last.third;
+                is_indirect = last.flags(is_packed) & INDIRECT != 0;
+            }
+        }
+        Ok(chain)
+    }
+
+    /// The same by one descriptor after the other. `in_ring` is told each that is in no indirect table, and says which one is followed.
     pub(crate) fn follow(
         &mut self,
         most: usize,
@@ -475,11 +513,7 @@ impl CoreQueue {
             is_indirect |= !found;
             if found {
                 // SAFETY: as above; the slices hold `seen`.
-                unsafe { chain.slices.push(segment.range.addr, segment.range.len) };
-                match segment.writable {
-                    true => chain.written.push((segment.guest_addr, segment.range.len)),
-                    false => chain.readable += 1,
-                }
+                unsafe { chain.push(&segment, most) }?;
             }
         }
     }
@@ -495,6 +529,42 @@ impl CoreQueue {
         // SAFETY: as above.
         unsafe { atomic(used.then.addr) }.store(used.then_value.to_le(), Ordering::Release);
         Ok(Used { elem: used.elem, then: used.then, then_value: used.then_value })
+    }
+
+    /// Gives chains back together, by their ids and lengths: the driver sees none of them before it sees the last index, or of a packed queue the
+    /// flags of the first. `written` is told each place after it was written. How many there were: what the device has not is left out.
+    pub(crate) fn add_all_used(
+        &mut self,
+        chains: impl Iterator<Item = (u16, u32)>,
+        is_packed: bool,
+        mut written: impl FnMut(&Self, Range),
+    ) -> usize {
+        let (mut held, mut count) = (None, 0);
+        for (id, len) in chains {
+            let mut used = RawUsed::default();
+            // SAFETY: as above; the places are of `rings`, which stay as they are until the end of this call.
+            if unsafe { covretin_queue_add_used(&mut self.raw, id, len, &mut used) } != 0 {
+                continue;
+            }
+            // SAFETY: as above.
+            unsafe { store(used.elem, used.elem_value) };
+            written(self, used.elem);
+            count += 1;
+            let then = (used.then, used.then_value);
+            match held {
+                Some(_) if is_packed => self.show_used(then, &mut written),
+                _ => held = Some(then),
+            }
+        }
+        held.into_iter().for_each(|then| self.show_used(then, &mut written));
+        count
+    }
+
+    /// Has the driver see what was used, up to this place, which is of a chain that `add_all_used` gives back.
+    fn show_used(&self, (place, value): (Range, u16), written: &mut impl FnMut(&Self, Range)) {
+        // SAFETY: as above.
+        unsafe { atomic(place.addr) }.store(value.to_le(), Ordering::Release);
+        written(self, place);
     }
 
     /// Whether the driver is to be told of what was used.
@@ -577,26 +647,6 @@ unsafe fn store(place: Range, value: u64) {
         // SAFETY: as the caller says.
         unsafe { atomic(place.addr + 2 * at) }.store(((value >> (16 * at)) as u16).to_le(), Ordering::Relaxed);
     }
-}
-
-/// A descriptor. One of an indirect table may begin anywhere.
-///
-/// # Safety
-///
-/// Its 16 bytes are mapped.
-unsafe fn load_descriptor(addr: u64) -> Descriptor {
-    take_faults();
-    let mut words = [0; 2];
-    if addr % 8 == 0 {
-        // SAFETY: as the caller says, and they are aligned.
-        let both = unsafe { &*(addr as usize as *const [AtomicU64; 2]) };
-        words = [0, 1].map(|at| u64::from_le(both[at].load(Ordering::Relaxed)));
-    } else {
-        // SAFETY: as the caller says.
-        let bytes = unsafe { &*(addr as usize as *const [AtomicU8; 16]) };
-        (0..16).for_each(|at| words[at / 8] |= u64::from(bytes[at].load(Ordering::Relaxed)) << (8 * (at % 8)));
-    }
-    Descriptor { addr: words[0], len: words[1] as u32, third: (words[1] >> 32) as u16, fourth: (words[1] >> 48) as u16 }
 }
 
 // -- The inflight region, and the dirty log: numbers come of numbers --

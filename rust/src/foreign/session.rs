@@ -64,12 +64,24 @@ calls! {
     take_reply = covretin_take();
     set_hdr_flags = covretin_set_hdr_flags(flags: u32);
     set_profile = covretin_set_profile(profile: u32);
-    // generated from protocol/requests.toml: calls without an argument
+    // generated from protocol/requests.toml: calls of plain arguments
     get_features = covretin_ask_get_features();
+    set_features = covretin_ask_set_features(features: u64);
     set_owner = covretin_ask_set_owner();
     reset_owner = covretin_ask_reset_owner();
+    set_log_fd = covretin_ask_set_log_fd(fd: i32);
+    set_vring_num = covretin_ask_set_vring_num(index: usize, num: u16);
+    set_vring_base = covretin_ask_set_vring_base(index: usize, base: u32);
+    get_vring_base = covretin_ask_get_vring_base(index: usize);
+    set_vring_kick = covretin_ask_set_vring_kick(index: usize, fd: i32);
+    set_vring_call = covretin_ask_set_vring_call(index: usize, fd: i32);
+    set_vring_err = covretin_ask_set_vring_err(index: usize, fd: i32);
     get_protocol_features = covretin_ask_get_protocol_features();
+    set_protocol_features = covretin_ask_set_protocol_features(features: u64);
     get_queue_num = covretin_ask_get_queue_num();
+    set_vring_enable = covretin_ask_set_vring_enable(index: usize, enable: bool);
+    set_mtu = covretin_ask_set_mtu(mtu: u16);
+    set_backend_request_fd = covretin_ask_set_backend_request_fd(fd: i32);
     postcopy_advise = covretin_ask_postcopy_advise();
     postcopy_listen = covretin_ask_postcopy_listen();
     postcopy_end = covretin_ask_postcopy_end();
@@ -77,28 +89,16 @@ calls! {
     get_max_mem_slots = covretin_ask_get_max_mem_slots();
     check_device_state = covretin_ask_check_device_state();
     get_shmem_config = covretin_ask_get_shmem_config();
+    postcopy_ack_mem_regions = covretin_ask_postcopy_ack_mem_regions(code: u32);
     // end
-    set_features = covretin_ask_set_features(features: u64);
-    set_protocol_features = covretin_ask_set_protocol_features(features: u64);
     add_mem_region = covretin_ask_add_mem_region(region: &Region);
     remove_mem_region = covretin_ask_remove_mem_region(region: &Region);
     set_log_base = covretin_ask_set_log_base(base: u64, region: &Region);
     set_log_base_alone = covretin_ask_set_log_base_alone(base: u64);
-    set_log_fd = covretin_ask_set_log_fd(fd: i32);
-    set_vring_num = covretin_ask_set_vring_num(index: usize, num: u16);
     set_vring_addr = covretin_ask_set_vring_addr(index: usize, ring: &Vring);
-    set_vring_base = covretin_ask_set_vring_base(index: usize, base: u32);
-    get_vring_base = covretin_ask_get_vring_base(index: usize);
-    set_vring_call = covretin_ask_set_vring_call(index: usize, fd: i32);
-    set_vring_kick = covretin_ask_set_vring_kick(index: usize, fd: i32);
-    set_vring_err = covretin_ask_set_vring_err(index: usize, fd: i32);
-    set_vring_enable = covretin_ask_set_vring_enable(index: usize, enable: bool);
-    set_backend_request_fd = covretin_ask_set_backend_request_fd(fd: i32);
     get_inflight_fd = covretin_ask_get_inflight_fd(inflight: &Inflight);
     set_inflight_fd = covretin_ask_set_inflight_fd(inflight: &Inflight, fd: i32);
     set_device_state_fd = covretin_ask_set_device_state_fd(direction: u32, phase: u32, fd: i32);
-    postcopy_ack_mem_regions = covretin_ask_postcopy_ack_mem_regions(request: u32);
-    set_mtu = covretin_ask_set_mtu(mtu: u16);
     set_mem_table = covretin_ask_set_mem_table(; regions: [Region]);
     get_config = covretin_ask_get_config_bytes(offset: u32, flags: u32; bytes: [u8]);
     set_config = covretin_ask_set_config(offset: u32, flags: u32; bytes: [u8]);

@@ -181,7 +181,7 @@ fn read_option<T: Copy + Default>(socket: &impl AsRawFd, name: libc::c_int) -> i
 /// Whether this thread's system calls go through a filter of its own, as a daemon has it that shuts itself in: one more than the process has that
 /// began this one. Those are of a container, and let a program do what programs do. Where it can't be seen it may be so. (Of what is called for
 /// it, each such filter knows.)
-fn is_filtered() -> bool {
+pub(super) fn is_filtered() -> bool {
     // SAFETY: it returns a number.
     if unsafe { libc::prctl(libc::PR_GET_SECCOMP) } == 0 {
         return false;
@@ -204,6 +204,13 @@ const FILTERS: &str = "Seccomp_filters";
 fn told_of(process: &str, name: &str) -> Option<u32> {
     let status = read_to_string(format!("/proc/{process}/status")).ok()?;
     status.lines().find_map(|line| line.strip_prefix(name)?.strip_prefix(':'))?.trim().parse().ok()
+}
+
+/// Whether bytes wait in a socket.
+pub(super) fn has_unread(socket: &impl AsRawFd) -> bool {
+    let mut count: libc::c_int = 0;
+    // SAFETY: it writes one number, the one that it is lent.
+    unsafe { libc::ioctl(socket.as_raw_fd(), libc::FIONREAD, &mut count) == 0 && count != 0 }
 }
 
 /// Sets an option of a socket: of SOL_SOCKET, by its number, whose value is of this type. EPERM: system calls are filtered, and a filter

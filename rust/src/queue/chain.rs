@@ -1,6 +1,6 @@
 // SPDX-License-Identifier: Apache-2.0
 //! A request of the guest, as its descriptors have it.
-use std::io;
+use std::{fmt, io};
 
 use super::VolatileSlice;
 use crate::foreign::{Chain, Slices};
@@ -26,6 +26,11 @@ impl DescriptorChain {
     /// The head of a split queue's chain, or the id of a packed one's.
     pub fn head_index(&self) -> u16 {
         self.id
+    }
+
+    /// How many parts it has.
+    pub(crate) fn parts(&self) -> usize {
+        self.slices.count()
     }
 
     /// The parts that are to be read. None is empty but where its bytes were taken off.
@@ -70,6 +75,15 @@ impl DescriptorChain {
             done += count;
         }
         done
+    }
+}
+
+impl fmt::Debug for DescriptorChain {
+    fn fmt(&self, f: &mut fmt::Formatter<'_>) -> fmt::Result {
+        let (readable, writable) = (self.readable_len(), self.writable_len());
+        let mut all = f.debug_struct("DescriptorChain");
+        all.field("head_index", &self.id).field("readable_len", &readable).field("writable_len", &writable);
+        all.field("is_again", &self.is_again).finish_non_exhaustive()
     }
 }
 

@@ -2,10 +2,10 @@
 //! The inflight region: memory that a frontend keeps while a device is started again, in which each queue notes the requests that it has taken
 //! and not given back (the vhost-user specification, "Inflight I/O tracking").
 use std::fs::File;
-use std::io;
 use std::os::unix::io::AsRawFd;
 use std::sync::atomic::{fence, Ordering};
 use std::sync::Arc;
+use std::{fmt, io};
 
 use super::inflight_packed::{PackedArea, UNIT};
 use super::Result;
@@ -51,6 +51,13 @@ pub struct InflightRegion {
     is_packed: bool,
 }
 
+impl fmt::Debug for InflightRegion {
+    fn fmt(&self, f: &mut fmt::Formatter<'_>) -> fmt::Result {
+        let mut all = f.debug_struct("InflightRegion");
+        all.field("queue_size", &self.queue_size).field("is_packed", &self.is_packed).finish_non_exhaustive()
+    }
+}
+
 impl InflightRegion {
     /// A file of zeros for a region of so many split queues of this size: what GET_INFLIGHT_FD replies.
     pub fn create(num_queues: u16, queue_size: u16) -> io::Result<(VhostUserInflight, File)> {
@@ -86,12 +93,15 @@ impl InflightRegion {
         about: &VhostUserInflight,
         file: &impl AsRawFd,
     ) -> io::Result<InflightRegion> {
-        let size = u64::from(about.num_queues) * area_size(is_packed, about.queue_size);
-        if size == 0 || about.mmap_offset % 64 != 0 || about.mmap_size < size {
-            return Err(io::ErrorKind::InvalidInput.into());
-        }
+        let size = InflightRegion::size_of(is_packed, about).ok_or(io::ErrorKind::InvalidInput)?;
         let mapping = Arc::new(Mapping::new(holder, file, about.mmap_offset, size)?);
         Ok(InflightRegion { mapping, queue_size: about.queue_size, is_packed })
+    }
+
+    /// How many bytes of its file are mapped. None: they are not enough for its queues, or not aligned.
+    pub(crate) fn size_of(is_packed: bool, about: &VhostUserInflight) -> Option<u64> {
+        let size = u64::from(about.num_queues) * area_size(is_packed, about.queue_size);
+        (size != 0 && about.mmap_offset % 64 == 0 && about.mmap_size >= size).then_some(size)
     }
 
     /// Where the part of a queue of this size begins, if it has one.

@@ -40,18 +40,21 @@ use std::{error, fmt, io};
 
 use crate::foreign;
 
+pub mod bare;
 mod chain;
 mod files;
 mod inflight;
 mod inflight_packed;
 mod memory;
 mod ring;
+mod streams;
 
 pub use self::chain::DescriptorChain;
 pub use self::inflight::InflightRegion;
 pub(crate) use self::memory::Change;
 pub use self::memory::{DirtyLog, GuestAddress, GuestMemory, GuestRegion};
 pub use self::ring::{Chains, Queue};
+pub use self::streams::{Reader, Writer};
 pub use crate::foreign::VolatileSlice;
 
 /// The greatest number of parts of a request; of a queue that has more descriptors, as many as it has.
@@ -99,56 +102,58 @@ macro_rules! errors {
 }
 
 errors! {
-    /// A region is empty or ends beyond the addresses of 64 bits.
-    InvalidRegion = 1, "a region of memory is empty, or ends beyond 64 bits";
-    /// A region overlaps another.
+    // generated from protocol/requests.toml: rules of a queue
+    /// A region of memory is empty, or ends beyond the addresses of 64 bits.
+    InvalidRegion = 1, "a region of memory is empty, or ends beyond the addresses of 64 bits";
+    /// A region of memory overlaps another.
     RegionOverlap = 2, "a region of memory overlaps another";
-    /// There are more than 509 regions.
-    TooManyRegions = 3, "too many regions of memory";
-    /// There is no such region.
-    NoSuchRegion = 4, "no such region of memory";
-    /// The size of a queue is 0, above its greatest, or of a split queue no power of two.
-    InvalidSize = 5, "invalid size of a queue";
-    /// A part of a queue is not aligned where it is mapped.
-    Unaligned = 6, "a part of a queue is not aligned";
+    /// There are more than 509 regions of memory.
+    TooManyRegions = 3, "there are more than 509 regions of memory";
+    /// There is no such region of memory.
+    NoSuchRegion = 4, "there is no such region of memory";
+    /// Its size is 0, above its greatest, or of a split queue no power of two.
+    InvalidSize = 5, "its size is 0, above its greatest, or of a split queue no power of two";
+    /// A part of it is not aligned where it is mapped.
+    Unaligned = 6, "a part of it is not aligned where it is mapped";
     /// The base of a packed ring is not in the ring.
-    InvalidBase = 7, "the base is not in the ring";
+    InvalidBase = 7, "the base of a packed ring is not in the ring";
     /// The inflight region is not that of the queue.
-    InvalidInflight = 8, "the inflight region is another queue's";
-    /// A range does not lie in one region.
-    NotInGuest = 9, "a range does not lie in guest memory";
+    InvalidInflight = 8, "the inflight region is not that of the queue";
+    /// A range does not lie in one region of guest memory.
+    NotInGuest = 9, "a range does not lie in one region of guest memory";
     /// A descriptor has no bytes.
     EmptyDescriptor = 10, "a descriptor has no bytes";
     /// A head or a next descriptor is not in its table.
-    NotInTable = 11, "a descriptor is not in its table";
-    /// A chain has more descriptors than it may, or is a loop.
-    ChainTooLong = 13, "a chain has too many descriptors";
-    /// A part that is to be read comes behind one that is to be written.
-    ReadableAfterWritable = 14, "a readable part behind a writable one";
+    NotInTable = 11, "a head or a next descriptor is not in its table";
+    /// A chain is a loop, or has more descriptors than it may.
+    ChainTooLong = 13, "a chain is a loop, or has more descriptors than it may";
+    /// A descriptor to be read comes after one to be written.
+    ReadableAfterWritable = 14, "a descriptor to be read comes after one to be written";
     /// An indirect table was not negotiated, or lies in another.
-    UnexpectedIndirect = 15, "an indirect table that may not be there";
+    UnexpectedIndirect = 15, "an indirect table was not negotiated, or lies in another";
     /// A descriptor that names an indirect table goes on.
-    IndirectGoesOn = 16, "a descriptor of an indirect table goes on";
+    IndirectGoesOn = 16, "a descriptor that names an indirect table goes on";
     /// The length of an indirect table is 0, or no multiple of 16.
-    InvalidIndirectLength = 17, "invalid length of an indirect table";
+    InvalidIndirectLength = 17, "the length of an indirect table is 0, or no multiple of 16";
     /// More chains are available than the queue has.
     TooManyAvailable = 18, "more chains are available than the queue has";
     /// A chain is made available again before it was used.
-    HeadInUse = 19, "a chain is available again before it was used";
+    HeadInUse = 19, "a chain is made available again before it was used";
     /// The driver broke a rule before.
-    NeedsReset = 20, "the queue needs a reset";
+    NeedsReset = 20, "the driver broke a rule before";
     /// No chain is available.
-    NothingAvailable = 21, "nothing is available";
-    /// No descriptor was to be read.
-    ChainEnded = 22, "the chain is at its end";
+    NothingAvailable = 21, "no chain is available";
+    /// No descriptor is left to be read.
+    ChainEnded = 22, "no descriptor is left to be read";
     /// The device has no such chain.
     NotHandedOut = 23, "the device has no such chain";
     /// An allocation failed.
-    OutOfMemory = 24, "out of memory";
-    /// The queue has no rings.
+    OutOfMemory = 24, "an allocation failed";
+    /// The queue is not started.
     NotStarted = 103, "the queue is not started";
-    /// The queue has rings of the other layout.
+    /// The queue has the other layout.
     OtherLayout = 104, "the queue has the other layout";
+    // end
 }
 
 impl error::Error for Error {}

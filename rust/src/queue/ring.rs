@@ -1,6 +1,7 @@
 // SPDX-License-Identifier: Apache-2.0
 //! A queue: where it lies, what is taken of it, and what is given back.
 use std::collections::VecDeque;
+use std::fmt;
 
 use super::inflight::Area;
 use super::inflight_packed::PackedArea;
@@ -162,7 +163,8 @@ impl Queue {
     }
 
     /// Where it goes on once it is started, as SET_VRING_BASE has it: an index, and of a packed queue its wrap counter above it, and the
-    /// same of the used ones in the upper 16 bits.
+    /// same of the used ones in the upper 16 bits. Where these are 0 they are as the lower ones: some, as DPDK's virtio_user, say the index of
+    /// what is available alone, and then nothing is under way.
     pub fn set_base(&mut self, base: u32) {
         self.base = Some(base);
     }
@@ -259,6 +261,9 @@ impl Queue {
 
     fn start_packed(&mut self, mut inflight: Option<PackedArea>) -> Result<()> {
         let (mut base, mut again) = (self.base(), VecDeque::new());
+        if base >> 16 == 0 {
+            base |= base << 16;
+        }
         if let Some(inflight) = &mut inflight {
             let (core, ring) = (&mut self.core, self.desc_table);
             let (used, heads) = inflight.recover((base >> 16) as u16, |index| core.packed_flags(ring, index))?;
@@ -389,7 +394,7 @@ impl Queue {
     fn take_packed(&mut self) -> Result<DescriptorChain> {
         let most = self.most_parts();
         let chain = match &mut self.packed_inflight {
-            None => self.core.follow(most, Ok)?,
+            None => self.core.walk(most, true)?,
             Some(inflight) => {
                 let mut kept = inflight.begin();
                 let chain = self.core.follow(most, |descriptor| inflight.keep(&mut kept, descriptor))?;
@@ -406,7 +411,7 @@ impl Queue {
     }
 
     fn follow(&mut self) -> Result<Chain> {
-        self.core.follow(self.most_parts(), Ok)
+        self.core.walk(self.most_parts(), false)
     }
 
     /// Gives a request back, of which so many bytes were written, from the first that is to be written on. In any order. These are logged; and of
@@ -430,6 +435,21 @@ impl Queue {
         self.log_ring(used.elem);
         self.log_ring(used.then);
         Ok(())
+    }
+
+    /// Gives many back, as [`add_used`](Self::add_used) does each, and has the driver see them at once; with an inflight region, which notes one at
+    /// a time, each by itself. How many there were: what the device has not is left out.
+    pub(crate) fn add_all_used<'c>(&mut self, chains: impl Iterator<Item = (&'c DescriptorChain, u32)> + Clone) -> usize {
+        if self.inflight.is_some() || self.packed_inflight.is_some() {
+            return chains.filter(|(chain, len)| self.add_used(chain, *len).is_ok()).count();
+        }
+        if let Some(log) = &self.log {
+            chains.clone().for_each(|(chain, len)| log_chain(log, &chain.written, len));
+        }
+        let (logged, is_packed) = (self.logged_ring(), self.is_packed);
+        self.core.add_all_used(chains.map(|(chain, len)| (chain.id, len)), is_packed, |core, range| {
+            logged.iter().for_each(|ring| ring.mark(core, range));
+        })
     }
 
     /// Whether the driver is to be told of what was given back since this was last asked. NotStarted.
@@ -473,15 +493,39 @@ impl Queue {
 
     /// Logs bytes of a ring, where they are mapped.
     fn log_ring(&self, range: Range) {
-        let (log, used) = match (&self.log, self.log_addr) {
-            (Some(log), Some(used)) => (log, used),
-            _ => return,
-        };
+        self.logged_ring().iter().for_each(|ring| ring.mark(&self.core, range));
+    }
+
+    /// By what its ring is logged, where that is wanted.
+    fn logged_ring(&self) -> Option<LoggedRing> {
+        let (log, used) = (self.log.clone()?, self.log_addr?);
+        Some(LoggedRing { log, used, used_at: self.used_at, is_packed: self.is_packed })
+    }
+}
+
+impl fmt::Debug for Queue {
+    fn fmt(&self, f: &mut fmt::Formatter<'_>) -> fmt::Result {
+        let mut all = f.debug_struct("Queue");
+        all.field("size", &self.size).field("is_packed", &self.is_packed).field("is_ready", &self.is_ready);
+        all.field("is_broken", &self.is_broken).finish_non_exhaustive()
+    }
+}
+
+/// By what a ring is logged: where the guest has the used ring, and where that is mapped.
+struct LoggedRing {
+    log: DirtyLog,
+    used: GuestAddress,
+    used_at: u64,
+    is_packed: bool,
+}
+
+impl LoggedRing {
+    fn mark(&self, core: &CoreQueue, range: Range) {
         let at = match self.is_packed {
-            true => self.core.ring_regions().guest_of(range.addr, range.len),
-            false => range.addr.checked_sub(self.used_at).and_then(|into| used.0.checked_add(into)),
+            true => core.ring_regions().guest_of(range.addr, range.len),
+            false => range.addr.checked_sub(self.used_at).and_then(|into| self.used.0.checked_add(into)),
         };
-        at.iter().for_each(|at| log.mark(GuestAddress(*at), range.len));
+        at.iter().for_each(|at| self.log.mark(GuestAddress(*at), range.len));
     }
 }
 
@@ -503,6 +547,7 @@ fn log_chain(log: &DirtyLog, parts: &[(u64, u64)], written: u32) {
 }
 
 /// The requests of a [`Queue`], as they come.
+#[derive(Debug)]
 pub struct Chains<'a> {
     queue: &'a mut Queue,
     has_ended: bool,

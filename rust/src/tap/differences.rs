@@ -1,9 +1,10 @@
 // SPDX-License-Identifier: Apache-2.0
 //! What a reply has in another way than the one that the session wrote for the same answer.
 use super::call::Form;
-use super::event::{count_of, number_at, Message, TO_FRONTEND};
+use super::event::{number_at, Message, TO_FRONTEND};
 use super::layout::{fields_of, name_of};
 use super::show::fields_text;
+use crate::reasons::{self, count_of};
 use crate::vhost_user::message::{FrontendReq, VhostUserHeaderFlag, VhostUserProtocolFeatures};
 
 /// What a reply has in another way.
@@ -31,15 +32,15 @@ fn flags(reply: &Message, wanted: &Message) -> Option<String> {
 }
 
 fn descriptors(reply: &Message, wanted: usize) -> Option<String> {
-    let place = if reply.body_fds != 0 { ", not all of them with its first byte" } else { "" };
+    let place = if reply.body_fds != 0 { reasons::LATE } else { "" };
     let is_other = reply.fds.len() != wanted || reply.body_fds != 0;
-    is_other.then(|| format!("{}{place}, and not {wanted}", count_of(reply.fds.len(), "descriptor")))
+    is_other.then(|| format!("{}{place}, and not {wanted}", count_of(reply.fds.len() as u64, "descriptor")))
 }
 
 fn body(form: Form, reply: &Message, wanted: &Message) -> Option<String> {
     let (came, table) = (reply.body(), wanted.body());
     if came.len() != table.len() {
-        return Some(format!("{} of body, and not {}", count_of(came.len(), "byte"), table.len()));
+        return Some(format!("{} of body, and not {}", count_of(came.len() as u64, "byte"), table.len()));
     }
     let plain = |body| plain_body(reply.request(), form, body);
     let text = |message| fields_text(&fields_of(TO_FRONTEND, message)).trim_start().to_string();

@@ -18,14 +18,6 @@ pub(super) fn u32_at(bytes: &[u8], at: usize) -> u32 {
     number_at(bytes, at, 4) as u32
 }
 
-/// So many of these.
-pub(super) fn count_of(count: usize, name: &str) -> String {
-    match count {
-        1 => format!("1 {name}"),
-        count => format!("{count} {name}s"),
-    }
-}
-
 /// Which connection of a session: that to the device, or the backend channel.
 #[derive(Clone, Copy, Debug, PartialEq, Eq)]
 pub(super) enum Channel {

@@ -1,6 +1,6 @@
 // SPDX-License-Identifier: Apache-2.0
 //! An event as a packet of Wireshark's "exported PDU": tags that name the dissector, a header that says what the event is, and then
-//! its bytes. wireshark/vhost_user.lua reads it.
+//! its bytes. protocol/vhost_user.lua reads it.
 //!
 //! The header begins with a byte each for the layout's version, the kind of the event, its way and whether it is short. Then stand, all
 //! little-endian: the header's length (4 bytes), the session (8), the time since the tap's start in ten thousandths of a second (8), how

@@ -6,14 +6,16 @@ use std::os::unix::io::RawFd;
 
 use super::call::{answer, form_of, is_awaited, is_refusal, stand_ins, Form};
 use super::differences::differences;
-use super::event::{count_of, number_at, Event, Message, Way, What, HEADER, TO_BACKEND, TO_FRONTEND};
+use super::event::{number_at, Event, Message, Way, What, HEADER, TO_BACKEND, TO_FRONTEND};
 use super::finding::{leaver, leaver_behind, Finding, Kind, STOPPED};
 use super::layout::name_of;
-use super::refused::{has_own_reply, why};
+use super::refused::{came_of, has_own_reply};
 use super::unserved::{stands_for, StandIn};
 use crate::foreign::{BackendSession, Code, Moves, Owning, Serves, MAX_FDS, MAX_MESSAGE};
+use crate::reasons::count_of;
 use crate::vhost_user::message::{FrontendReq, VhostUserHeaderFlag, VhostUserProtocolFeatures, VhostUserVirtioFeatures};
 use crate::vhost_user::Profile;
+use crate::why::why;
 
 /// COVRETIN_BACKEND_INTERNAL_ERROR: the device refused.
 const DEVICE_REFUSED: Code = Code(17);
@@ -153,7 +155,8 @@ impl Judge {
             }
         }
         match way {
-            TO_FRONTEND => self.end(time, leaver_behind(cause).or(self.left_by)),
+            // (whoever left first: the tap may end between the one way's end and the other's)
+            TO_FRONTEND => self.end(time, self.left_by.or(leaver_behind(cause))),
             _ => self.left_by = leaver(cause),
         }
     }
@@ -321,7 +324,7 @@ impl Judge {
             (true, false) => "nothing is replied, so the frontend cannot know",
         };
         let name = name_of(TO_BACKEND, request);
-        let reason = why(code, session.inactive(), request);
+        let reason = why(code, session.inactive(), &came_of(request));
         self.complain(format!("{name} is refused: {reason}; {heard}"));
         if written.is_empty() {
             self.remember(request.code());
@@ -508,7 +511,7 @@ fn said(outcome: Result<(), Code>) -> Result<(), Code> {
 
 fn cut_short(message: &Message) -> String {
     match message.bytes.len() {
-        count if count < HEADER => format!("the stream ended behind {} of a header", count_of(count, "byte")),
-        count => format!("the stream ended behind {} of a body of {}", count_of(count - HEADER, "byte"), message.size()),
+        count if count < HEADER => format!("the stream ended behind {} of a header", count_of(count as u64, "byte")),
+        count => format!("the stream ended behind {} of a body of {}", count_of((count - HEADER) as u64, "byte"), message.size()),
     }
 }

@@ -26,6 +26,8 @@ than the backend ended the session, and what is not by the letter, but taken by 
   --record=FILE  writes what is seen to FILE, a line of JSON each
   --count=N      ends with the Nth session; without it the tap ends by SIGINT or SIGTERM, and with it all sessions
   --replay=FILE  shows and judges what was recorded, in place of a session
+  --version, --help
+                 prints the version, or this
 
 Status: 0 where nothing is wrong; 1 where something is; 2 after wrong arguments; 4 where a path can't be used, as one at which
 no backend listens, or not all could be shown.";

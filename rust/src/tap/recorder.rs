@@ -1,6 +1,7 @@
 // SPDX-License-Identifier: Apache-2.0
 //! Recordings that another program than the tap makes, of what it has sent and received itself.
 use std::collections::BTreeMap;
+use std::fmt;
 
 use super::event::{Event, Message, Way, What};
 use super::gathering::{Gathering, Received};
@@ -13,6 +14,12 @@ pub struct Recorder {
     text: String,
     last: f64,
     streams: BTreeMap<(u64, String), Gathering>,
+}
+
+impl fmt::Debug for Recorder {
+    fn fmt(&self, f: &mut fmt::Formatter<'_>) -> fmt::Result {
+        f.debug_struct("Recorder").field("last", &self.last).finish_non_exhaustive()
+    }
 }
 
 impl Recorder {

@@ -32,20 +32,3 @@ fn ring_request(message: &Message, request: FrontendReq) -> StandIn {
     bytes.extend_from_slice(&RING);
     StandIn::Bytes(bytes)
 }
-
-/// The known requests that no table of this library has.
-pub(super) fn is_unserved(code: FrontendReq) -> bool {
-    use FrontendReq::*;
-    matches!(
-        code,
-        SET_LOG_FD
-            | SEND_RARP
-            | IOTLB_MSG
-            | SET_VRING_ENDIAN
-            | CREATE_CRYPTO_SESSION
-            | CLOSE_CRYPTO_SESSION
-            | VRING_KICK
-            | SET_STATUS
-            | GET_STATUS
-    )
-}

@@ -11,7 +11,8 @@ use super::message::*;
 use super::served_connection::ServedConnection;
 use super::{Backend, Error, GpuBackend, Profile, Result, VhostUserBackendReqHandler};
 use crate::foreign::{option_of, BackendSession, Code, Inflight, Outcome, PeerFd, Region, CALL_OTHER, MAX_CONFIG, MAX_FDS};
-use crate::VhostUserMemoryRegionBase;
+use crate::why::why;
+use crate::{telling, VhostUserMemoryRegionBase};
 
 /// COVRETIN_CALL_POSTCOPY_ACK, which is the number of no request.
 const POSTCOPY_ACK: u32 = 256;
@@ -25,6 +26,8 @@ type BackendConnection = ServedConnection<BackendSession>;
 pub struct BackendReqHandler<S: VhostUserBackendReqHandler> {
     device: Arc<S>,
     connection: BackendConnection,
+    /// Whether a line has said that the session ended.
+    is_end_told: bool,
 }
 
 impl<S: VhostUserBackendReqHandler> BackendReqHandler<S> {
@@ -33,7 +36,7 @@ impl<S: VhostUserBackendReqHandler> BackendReqHandler<S> {
     pub fn from_stream(socket: UnixStream, backend: Arc<S>) -> Self {
         // (the crate's name for this returns no Result)
         let session = BackendSession::open().expect("allocation of a session failed");
-        BackendReqHandler { device: backend, connection: ServedConnection::over(session, socket) }
+        BackendReqHandler { device: backend, connection: ServedConnection::over(session, socket), is_end_told: false }
     }
 
     /// Connects to a frontend that listens at a path. SocketConnect: nobody does, or another error of the system.
@@ -93,13 +96,54 @@ impl<S: VhostUserBackendReqHandler> BackendReqHandler<S> {
     /// (InactiveFeature, InactiveOperation, InvalidParam, InvalidOperation, IncorrectFds, FrontendInternalError), or the device
     /// refused it, whose error it is, or gave another number of bases than of regions (BackendInternalError).
     pub fn handle_request(&mut self) -> Result<()> {
-        let call = self.next_call()?;
-        self.answer(call)
+        let served = match self.next_call() {
+            Ok(call) => self.answer_and_tell(call),
+            Err(error) => Err(error),
+        };
+        served.map_err(|error| self.tell_end(error))
     }
 
-    /// Receives the next request, and checks it: its number, by which it is to be answered.
+    /// Answers a call; a line says why the device refused it.
+    fn answer_and_tell(&mut self, call: u32) -> Result<()> {
+        let answered = self.answer(call);
+        let told = self.take_told();
+        match (&answered, &told) {
+            (Err(Error::SocketBroken(_) | Error::SocketError(_) | Error::SocketRetry(_)), _) => {}
+            (Err(error), _) | (Ok(()), Some(error)) => telling::refused(self.last_request(), || telling::reason_of(error)),
+            (Ok(()), None) => {}
+        }
+        answered
+    }
+
+    /// Says once who ended the session, where it has.
+    #[cold]
+    fn tell_end(&mut self, error: Error) -> Error {
+        let is_end = self.has_ended() || matches!(error, Error::Disconnected);
+        if is_end && !self.is_end_told {
+            self.is_end_told = true;
+            telling::ended(self.last_request(), self.is_cut(), &error);
+        }
+        error
+    }
+
+    /// Receives the next request, and checks it: its number, by which it is to be answered. Of one that is refused a line says why.
     pub(crate) fn next_call(&mut self) -> Result<u32> {
-        self.connection.next_call()
+        let call = self.connection.next_call();
+        if let Some((code, inactive)) = self.connection.take_refusal() {
+            let came = self.connection.came();
+            telling::refused(self.last_request(), || why(code, inactive, &came));
+        }
+        call
+    }
+
+    /// Whether the last request ended amid its body.
+    pub(crate) fn is_cut(&self) -> bool {
+        self.connection.is_cut()
+    }
+
+    /// Why the device refused the last call, where its reply says so itself.
+    pub(crate) fn take_told(&mut self) -> Option<Error> {
+        self.connection.take_told()
     }
 
     /// The ring of the call that is to be answered, if it has one.
@@ -396,7 +440,10 @@ impl BackendConnection {
     fn told<T>(&mut self, result: Result<T>, say: impl FnOnce(&mut BackendSession, &T) -> Outcome) -> Result<()> {
         let replied = match result {
             Ok(value) => self.reply(|session| say(session, &value)),
-            Err(_) => self.reply(BackendSession::reply_refused),
+            Err(error) => {
+                self.note_told(error);
+                self.reply(BackendSession::reply_refused)
+            }
         };
         match replied {
             Err(Error::BackendInternalError) => Ok(()),

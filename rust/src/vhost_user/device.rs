@@ -202,5 +202,5 @@ const NO_POSTCOPY: Error = Error::InvalidOperation("no postcopy");
 /// What nobody serves is closed without waiting for its peer.
 fn not_served(files: Vec<File>) -> Result<()> {
     files.into_iter().for_each(close_at_once);
-    Err(Error::InvalidOperation("request not served"))
+    Err(Error::InvalidOperation(crate::reasons::UNSERVED))
 }

@@ -17,6 +17,7 @@ mod inflight_records;
 mod listener;
 pub mod message;
 mod served_connection;
+mod shown;
 mod transport;
 mod wire_records;
 

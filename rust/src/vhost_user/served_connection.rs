@@ -8,12 +8,11 @@ use std::{io, result};
 use super::transport::{broken_by, end_after, error_of, last_error, receive_ready, send_all};
 use super::{Error, Result};
 use crate::foreign::{Code, Outcome, Owning, PeerFd, PeerSocket, Serves, MAX_MESSAGE};
+use crate::reasons;
+use crate::why::{Came, Seen};
 
 /// COVRETIN_INVALID_OPERATION.
 const INVALID_OPERATION: Code = Code(2);
-
-/// The size of a request's number, with which its header begins.
-const CODE_SIZE: usize = 4;
 
 /// A connection of a backend to its frontend; or on the backend channel the other way round.
 pub(super) struct ServedConnection<S: Serves> {
@@ -25,8 +24,12 @@ pub(super) struct ServedConnection<S: Serves> {
     bytes: Box<[u8; MAX_MESSAGE]>,
     /// Whether a part of a request has come that was neither replied to nor refused.
     has_begun: bool,
-    /// The first bytes of the request that came last, of its number.
-    code: Vec<u8>,
+    /// What came of the last request, and whether the stream ended amid its body.
+    seen: Seen,
+    is_cut: bool,
+    /// Why the session refused it, with the features that it lacked; or the device, where the reply says so itself: as long as nobody asked.
+    refusal: Option<(Code, u64)>,
+    told: Option<Error>,
     /// What ended it: the system's number of an error. A request that failed on its way has left a part of a message.
     broken: Option<i32>,
 }
@@ -36,7 +39,19 @@ impl<S: Serves> ServedConnection<S> {
     pub(super) fn over(session: S, socket: UnixStream) -> ServedConnection<S> {
         let send_timeout = socket.write_timeout().ok().flatten();
         let (session, socket, bytes) = (Owning::new(session), PeerSocket::own(socket), Box::new([0; MAX_MESSAGE]));
-        ServedConnection { session, socket, send_timeout, bytes, has_begun: false, code: Vec::new(), broken: None }
+        let (seen, has_begun) = (Seen::default(), false);
+        ServedConnection {
+            session,
+            socket,
+            send_timeout,
+            bytes,
+            has_begun,
+            seen,
+            is_cut: false,
+            refusal: None,
+            told: None,
+            broken: None,
+        }
     }
 
     pub(super) fn set_send_timeout(&mut self, timeout: Option<Duration>) {
@@ -59,7 +74,31 @@ impl<S: Serves> ServedConnection<S> {
 
     /// The number of the request that came last, as its header has it.
     pub(super) fn last_request(&self) -> Option<u32> {
-        self.code[..].try_into().ok().map(u32::from_le_bytes)
+        self.seen.request()
+    }
+
+    /// What came of it.
+    pub(super) fn came(&self) -> Came {
+        self.seen.came()
+    }
+
+    /// Whether the stream ended amid its body.
+    pub(super) fn is_cut(&self) -> bool {
+        self.is_cut
+    }
+
+    /// Why the session refused a request, with the features that it lacked, where it did since this was last asked.
+    pub(super) fn take_refusal(&mut self) -> Option<(Code, u64)> {
+        self.refusal.take()
+    }
+
+    /// Notes why the device refused a call whose reply says so itself; and says it once.
+    pub(super) fn note_told(&mut self, error: Error) {
+        self.told = Some(error);
+    }
+
+    pub(super) fn take_told(&mut self) -> Option<Error> {
+        self.told.take()
     }
 
     /// Sets what the session needs to know.
@@ -136,21 +175,12 @@ impl<S: Serves> ServedConnection<S> {
             if count == 0 {
                 return Err(self.end());
             }
-            self.note_code(count);
+            self.seen.note(&self.bytes[..count], fds.len(), !self.has_begun);
             if let Err(code) = self.session.receive(&self.bytes[..count], &mut fds) {
                 return Err(self.break_by(error_of(code, 0)));
             }
             self.has_begun = true;
         }
-    }
-
-    /// Notes the first bytes of a request, of those that came.
-    fn note_code(&mut self, count: usize) {
-        if !self.has_begun {
-            self.code.clear();
-        }
-        let more = count.min(CODE_SIZE - self.code.len());
-        self.code.extend_from_slice(&self.bytes[..more]);
     }
 
     /// The request was replied to, or refused. What came with it and was not claimed is closed.
@@ -165,7 +195,10 @@ impl<S: Serves> ServedConnection<S> {
         match self.session.end() {
             Err(code) => match error_of(code, 0) {
                 Error::Disconnected => Error::Disconnected,
-                error => self.break_by(error),
+                error => {
+                    self.is_cut = matches!(error, Error::InvalidMessage);
+                    self.break_by(error)
+                }
             },
             Ok(()) => self.break_by(Error::Disconnected),
         }
@@ -175,8 +208,9 @@ impl<S: Serves> ServedConnection<S> {
     #[cold]
     fn refuse_request(&mut self, code: Code) -> Error {
         self.end_request();
+        self.refusal = Some((code, self.session.inactive()));
         let error = match code {
-            INVALID_OPERATION => Error::InvalidOperation("not in this state of postcopy"),
+            INVALID_OPERATION => Error::InvalidOperation(reasons::OTHER_STATE),
             code => error_of(code, self.session.inactive()),
         };
         let error = match (self.send(), error) {

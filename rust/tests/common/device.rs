@@ -64,21 +64,53 @@ fn region(it: &VhostUserMemoryRegion) -> String {
 }
 
 impl VhostUserBackendReqHandlerMut for Noting {
+    // generated from protocol/requests.toml: calls that are noted
+    fn set_features(&mut self, features: u64) -> Result<()> {
+        self.note(format!("set_features {features:#x}"))
+    }
     fn set_owner(&mut self) -> Result<()> {
         self.note("set_owner")
     }
     fn reset_owner(&mut self) -> Result<()> {
         self.note("reset_owner")
     }
+    fn set_vring_num(&mut self, index: u32, num: u32) -> Result<()> {
+        self.note(format!("set_vring_num {index} {num}"))
+    }
+    fn set_vring_base(&mut self, index: u32, base: u32) -> Result<()> {
+        self.note(format!("set_vring_base {index} {base}"))
+    }
+    fn set_vring_kick(&mut self, index: u8, fd: Option<File>) -> Result<()> {
+        self.keep("set_vring_kick", index, fd)
+    }
+    fn set_vring_call(&mut self, index: u8, fd: Option<File>) -> Result<()> {
+        self.keep("set_vring_call", index, fd)
+    }
+    fn set_vring_err(&mut self, index: u8, fd: Option<File>) -> Result<()> {
+        self.keep("set_vring_err", index, fd)
+    }
+    fn set_protocol_features(&mut self, features: u64) -> Result<()> {
+        self.note(format!("set_protocol_features {features:#x}"))
+    }
+    fn set_vring_enable(&mut self, index: u32, enable: bool) -> Result<()> {
+        self.note(format!("set_vring_enable {index} {enable}"))
+    }
+    fn set_mtu(&mut self, mtu: u16) -> Result<()> {
+        self.note(format!("set_mtu {mtu}"))
+    }
+    fn postcopy_listen(&mut self) -> Result<()> {
+        self.note("postcopy_listen")
+    }
+    fn postcopy_end(&mut self) -> Result<()> {
+        self.note("postcopy_end")
+    }
     fn reset_device(&mut self) -> Result<()> {
         self.note("reset_device")
     }
+    // end
     fn get_features(&mut self) -> Result<u64> {
         self.note("get_features")?;
         Ok(PROTOCOL)
-    }
-    fn set_features(&mut self, features: u64) -> Result<()> {
-        self.note(format!("set_features {features:#x}"))
     }
     fn set_mem_table(
         &mut self,
@@ -92,9 +124,6 @@ impl VhostUserBackendReqHandlerMut for Noting {
         self.note(format!("set_mem_table {} {postcopy_listening:?}", regions.join(", ")))?;
         Ok(self.bases.clone())
     }
-    fn set_vring_num(&mut self, index: u32, num: u32) -> Result<()> {
-        self.note(format!("set_vring_num {index} {num}"))
-    }
     fn set_vring_addr(
         &mut self,
         index: u32,
@@ -106,36 +135,18 @@ impl VhostUserBackendReqHandlerMut for Noting {
     ) -> Result<()> {
         self.note(format!("set_vring_addr {index} {:#x} {descriptor:#x} {used:#x} {available:#x} {log:#x}", flags.bits()))
     }
-    fn set_vring_base(&mut self, index: u32, base: u32) -> Result<()> {
-        self.note(format!("set_vring_base {index} {base}"))
-    }
     fn get_vring_base(&mut self, index: u32) -> Result<VhostUserVringState> {
         self.note(format!("get_vring_base {index}"))?;
         Ok(VhostUserVringState::new(index, 0x1234_5678))
-    }
-    fn set_vring_kick(&mut self, index: u8, fd: Option<File>) -> Result<()> {
-        self.keep("set_vring_kick", index, fd)
-    }
-    fn set_vring_call(&mut self, index: u8, fd: Option<File>) -> Result<()> {
-        self.keep("set_vring_call", index, fd)
-    }
-    fn set_vring_err(&mut self, index: u8, fd: Option<File>) -> Result<()> {
-        self.keep("set_vring_err", index, fd)
     }
     fn get_protocol_features(&mut self) -> Result<VhostUserProtocolFeatures> {
         self.note("get_protocol_features")?;
         // The library adds REPLY_ACK.
         Ok(SERVED_PROTOCOL_FEATURES - VhostUserProtocolFeatures::REPLY_ACK)
     }
-    fn set_protocol_features(&mut self, features: u64) -> Result<()> {
-        self.note(format!("set_protocol_features {features:#x}"))
-    }
     fn get_queue_num(&mut self) -> Result<u64> {
         self.note("get_queue_num")?;
         Ok(RINGS)
-    }
-    fn set_vring_enable(&mut self, index: u32, enable: bool) -> Result<()> {
-        self.note(format!("set_vring_enable {index} {enable}"))
     }
     fn get_config(&mut self, offset: u32, size: u32, flags: VhostUserConfigFlags) -> Result<Vec<u8>> {
         self.note(format!("get_config {offset} {size} {:#x}", flags.bits()))?;
@@ -201,17 +212,8 @@ impl VhostUserBackendReqHandlerMut for Noting {
         self.files.push(file);
         self.note(format!("set_log_base {:#x} {:#x}", log.mmap_size, log.mmap_offset))
     }
-    fn set_mtu(&mut self, mtu: u16) -> Result<()> {
-        self.note(format!("set_mtu {mtu}"))
-    }
     fn postcopy_advice(&mut self) -> Result<File> {
         self.give("postcopy_advice")
-    }
-    fn postcopy_listen(&mut self) -> Result<()> {
-        self.note("postcopy_listen")
-    }
-    fn postcopy_end(&mut self) -> Result<()> {
-        self.note("postcopy_end")
     }
     fn postcopy_ack_mem_regions(&mut self) -> Result<()> {
         self.note("postcopy_ack_mem_regions")
@@ -219,7 +221,7 @@ impl VhostUserBackendReqHandlerMut for Noting {
     fn other(&mut self, request: u32, body: &[u8], files: Vec<File>) -> Result<()> {
         if !self.serves_others {
             files.into_iter().for_each(close_at_once);
-            return Err(Error::InvalidOperation("request not served"));
+            return Err(Error::InvalidOperation("nobody serves it"));
         }
         self.files.extend(files);
         self.note(format!("other {request} {body:?}"))

@@ -10,7 +10,7 @@ use std::sync::{Arc, Mutex};
 use std::thread::{sleep, spawn, JoinHandle};
 use std::time::Duration;
 
-use covretin::device::{Device, Ended, Request, Session, Stopper, VERSION_1};
+use covretin::device::{Device, Ended, Request, Session, Stopper, MAX_QUEUE_SIZE, VERSION_1};
 use covretin::queue;
 use covretin::vhost_user::message::*;
 use covretin::vhost_user::{Error, Frontend, VhostUserFrontend};
@@ -40,7 +40,10 @@ pub const LIMIT: usize = 20_000;
 #[derive(Default)]
 pub struct Its {
     pub keeps: bool,
+    pub by_pipe: bool,
     pub kept: Vec<Request>,
+    /// The largest size of a queue.
+    pub most: Option<u16>,
     pub served: usize,
     pub last_queue: usize,
     pub again: bool,
@@ -101,6 +104,14 @@ impl Device for Capitals {
 
     fn busy_poll(&self) -> Duration {
         self.busy_poll
+    }
+
+    fn max_queue_size(&self) -> u16 {
+        self.has(|its| its.most.unwrap_or(MAX_QUEUE_SIZE))
+    }
+
+    fn calls_by_pipe(&self) -> bool {
+        self.has(|its| its.by_pipe)
     }
 
     fn request(&self, request: Request) {

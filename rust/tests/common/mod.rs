@@ -6,6 +6,7 @@ pub mod device;
 pub mod lingering;
 pub mod machine;
 pub mod random;
+pub mod requests;
 pub mod tap;
 
 use std::fs::{read_dir, read_link, read_to_string, File};
@@ -42,6 +43,13 @@ pub fn counted(test: impl FnOnce()) {
     let _alone = ALONE.lock().unwrap_or_else(PoisonError::into_inner);
     let before = descriptors();
     test();
+    // (a thread may have to close a socket that a peer gave)
+    for _ in 0..machine::LIMIT {
+        if before == descriptors() {
+            return;
+        }
+        thread::sleep(Duration::from_millis(1));
+    }
     assert_eq!(before, descriptors(), "open descriptors before, and after");
 }
 

@@ -212,10 +212,9 @@ fn unknown_with_a_descriptor(t: &mut Target) -> Outcome {
     let mut c = t.negotiate()?;
     c.fence()?;
     let before = t.descriptors()?;
-    for _ in 0..3 {
-        c.send_as(200, 0, &[], &[event()?.as_raw_fd()])?;
-    }
-    match Answer::of(c.fence())? {
+    let given = events(3)?;
+    let sent = given.iter().try_for_each(|it| c.send_as(200, 0, &[], &[it.as_raw_fd()]));
+    match Answer::of(sent.and_then(|()| c.fence()))? {
         Answer::HungUp => seen(true, "hung up"),
         answer => seen_descriptors(t, before, &format!("; {}", answer.text())),
     }

@@ -20,6 +20,7 @@ pub(super) const CASES: &[Case] = &[
     ("INF-09", unfinished_is_done_again),
     ("INF-11", wrong_records),
     ("INF-12", new_region_is_zero),
+    ("INF-13", no_region_is_given),
     ("PKD-04", unfinished_packed_is_done_again),
 ];
 
@@ -186,8 +187,7 @@ fn packed_part(ring: &PackedRing, request: &[Buffer]) -> Vec<u8> {
 
 /// A packed ring, as a backend left it that was killed in the middle of its first request.
 fn unfinished_packed_is_done_again(t: &mut Target) -> Outcome {
-    let mut device = unprepared(t, Place::FIRST)?;
-    device.c.want(Feature::INFLIGHT_SHMFD)?;
+    let mut device = unprepared(t, Place::FIRST, Feature::INFLIGHT_SHMFD)?;
     let given = ask_for_region(&mut device.c, queues_of(t))?;
     let request = device.request();
     let head = device.driven().make_available(&request, ID);
@@ -204,4 +204,12 @@ fn unfinished_packed_is_done_again(t: &mut Target) -> Outcome {
     let id = device.driven().id(head.index);
     let next = device.works(ID + 1)?.is_some();
     seen(done && id == ID && next, format!("used {done} by id {id}; the next: {next}"))
+}
+
+/// The feature was accepted, and no region comes.
+fn no_region_is_given(t: &mut Target) -> Outcome {
+    let mut c = t.negotiate_with(Feature::INFLIGHT_SHMFD)?;
+    let mut rings = t.rings(&mut c, Setup::WHOLE)?;
+    let done = works(t, &c, rings.driven(), 1)?;
+    seen(done, format!("used {}", rings.driven().used_index()))
 }

@@ -1,8 +1,10 @@
 // SPDX-License-Identifier: Apache-2.0
 //! The cases that are programmed: each sends something, and says whether what came of it holds.
 mod acknowledgements;
+mod addresses;
 mod channel;
 mod configuration;
+mod display;
 mod headers;
 mod hostile;
 mod inflight;
@@ -55,13 +57,22 @@ pub fn all() -> impl Iterator<Item = &'static Case> {
         moving::CASES,
         page_faults::CASES,
         channel::CASES,
+        addresses::CASES,
         reset::CASES,
         others::CASES,
+        display::CASES,
         hostile::CASES,
         programs::CASES,
     ];
     groups.into_iter().flatten()
 }
+
+/// The cases that are not programmed, each with the reason.
+pub const UNPROGRAMMED: &[(&str, &str)] = &[
+    ("SHM-02", "no request asks a backend to map shared memory, so it would take a driver of a device that does: none that is known offers SHMEM"),
+    ("END-01", "no backend that is known offers CROSS_ENDIAN, which is for legacy guests whose bytes are in another order than the host's"),
+    ("XEN-01", "a region of Xen's memory can be mapped in a machine of Xen alone"),
+];
 
 fn seen(holds: bool, text: impl Into<String>) -> Outcome {
     Ok(Seen { holds, text: text.into() })

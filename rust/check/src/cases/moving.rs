@@ -3,7 +3,9 @@
 use std::io::{Read, Write};
 
 use super::*;
+use crate::patience::Patience;
 use crate::system::{enable_userfault, is_readable, pipe};
+use crate::target::Setup;
 
 pub(super) const CASES: &[Case] = &[
     ("PCP-01", userfault_is_opened),
@@ -19,6 +21,8 @@ pub(super) const CASES: &[Case] = &[
     ("DST-04", |t| refused_transfer(t, u32s(&[0, 0]), false)),
     ("DST-05", garbage_is_loaded),
     ("DST-06", checked_without_transfer),
+    ("DST-07", state_is_loaded_by_another),
+    ("DST-08", while_a_ring_runs),
     ("DST-09", reader_has_gone),
 ];
 
@@ -120,38 +124,94 @@ fn listen_after_memory(t: &mut Target) -> Outcome {
 }
 
 /// All bytes of a state, until its end; nothing where that does not come.
-fn state_from(from: &mut File, c: &Connection) -> Result<Option<usize>, Stop> {
-    let (mut size, mut bytes) = (0, vec![0; 65536]);
-    while size <= MOST_STATE {
-        if !crate::patience::Patience::new(c.process, c.limit).wait_until(|| is_readable(from, 0)) {
+fn state_from(from: &mut File, c: &Connection) -> Result<Option<Vec<u8>>, Stop> {
+    let (mut state, mut bytes) = (Vec::new(), vec![0; 65536]);
+    while state.len() <= MOST_STATE {
+        if !Patience::new(c.process, c.limit).wait_until(|| is_readable(from, 0)) {
             return Ok(None);
         }
         match from.read(&mut bytes)? {
-            0 => return Ok(Some(size)),
-            count => size += count,
+            0 => return Ok(Some(state)),
+            count => state.extend(&bytes[..count]),
         }
     }
     Ok(None)
 }
 
-fn state_is_saved(t: &mut Target) -> Outcome {
-    let mut c = t.negotiate_with(Feature::DEVICE_STATE)?;
+/// A state that was asked for.
+struct Saved {
+    text: String,
+    /// Whether the reply says no error, and bit 8 just where no descriptor came.
+    says_right: bool,
+    /// None where it does not end.
+    state: Option<Vec<u8>>,
+}
+
+fn saved(c: &mut Connection) -> Result<Saved, Stop> {
     let (mut from, to) = pipe()?;
     let mut reply = c.call(Request::SET_DEVICE_STATE_FD, &u32s(&[0, 0]), &[to.as_raw_fd()])?;
     drop(to);
-    let text = reply.to_string();
-    let number = reply.number().unwrap_or(STATE_ERROR);
+    let (text, number) = (reply.to_string(), reply.number().unwrap_or(STATE_ERROR));
     let says_right = number & STATE_ERROR == 0 && (number & NO_DESCRIPTOR != 0) == reply.descriptors.is_empty();
     if let Some(own) = reply.descriptors.pop() {
         from = File::from(own);
     }
-    match state_from(&mut from, &c)? {
+    let state = state_from(&mut from, c)?;
+    Ok(Saved { text, says_right, state })
+}
+
+fn state_is_saved(t: &mut Target) -> Outcome {
+    let mut c = t.negotiate_with(Feature::DEVICE_STATE)?;
+    let Saved { text, says_right, state } = saved(&mut c)?;
+    match state {
         None => seen(false, format!("{text}, its state never ends")),
-        Some(size) => {
+        Some(state) => {
             let check = c.number(Request::CHECK_DEVICE_STATE)?;
-            seen(says_right && check == 0, format!("{text}, {size} bytes, checked {check}"))
+            seen(says_right && check == 0, format!("{text}, {} bytes, checked {check}", state.len()))
         }
     }
+}
+
+/// Gives a state, of which not all need be read: the reply, and what the check says where it was not refused at once.
+fn loaded(c: &mut Connection, state: &[u8]) -> Result<(Reply, Option<u64>), Stop> {
+    let (from, mut to) = pipe()?;
+    let mut reply = c.call(Request::SET_DEVICE_STATE_FD, &u32s(&[1, 0]), &[from.as_raw_fd()])?;
+    drop(from);
+    if reply.number().unwrap_or(STATE_ERROR) & STATE_ERROR != 0 {
+        return Ok((reply, None));
+    }
+    if let Some(own) = reply.descriptors.pop() {
+        to = File::from(own);
+    }
+    // (one that reads nothing of it has refused it)
+    let _ = to.write_all(state);
+    drop(to);
+    let check = c.number(Request::CHECK_DEVICE_STATE)?;
+    Ok((reply, Some(check)))
+}
+
+/// What one process saves another one of the same program takes, which saves it again.
+fn state_is_loaded_by_another(t: &mut Target) -> Outcome {
+    let mut c = t.negotiate_with(Feature::DEVICE_STATE)?;
+    t.child().ok_or_else(|| Stop::Skip("it was not started here".to_string()))?;
+    let state = saved(&mut c)?.state.ok_or_else(|| Stop::Odd("its state never ends".to_string()))?;
+    let first = c.number(Request::CHECK_DEVICE_STATE)?;
+    drop(c);
+    t.stop();
+    let mut c = t.negotiate_with(Feature::DEVICE_STATE)?;
+    let (reply, second) = loaded(&mut c, &state)?;
+    let again = saved(&mut c)?.state.map_or("no state".to_string(), |it| format!("{} bytes", it.len()));
+    let text = format!("{} bytes, checked {first}; loaded: {reply}, checked {second:?}; saved again: {again}", state.len());
+    seen(first == 0 && second == Some(0), text)
+}
+
+fn while_a_ring_runs(t: &mut Target) -> Outcome {
+    let mut c = t.negotiate_with(Feature::DEVICE_STATE)?;
+    let _rings = t.rings(&mut c, Setup::WHOLE)?;
+    c.fence()?;
+    let (_from, to) = pipe()?;
+    let answer = Answer::of(c.ask(Request::SET_DEVICE_STATE_FD, &u32s(&[0, 0]), &[to.as_raw_fd()]))?;
+    seen(answer.is_error_of_state(), answer.text())
 }
 
 fn refused_transfer(t: &mut Target, body: Vec<u8>, with_descriptor: bool) -> Outcome {
@@ -159,31 +219,27 @@ fn refused_transfer(t: &mut Target, body: Vec<u8>, with_descriptor: bool) -> Out
     let (_from, to) = pipe()?;
     let descriptors = if with_descriptor { vec![to.as_raw_fd()] } else { Vec::new() };
     let answer = Answer::of(c.ask(Request::SET_DEVICE_STATE_FD, &body, &descriptors))?;
-    let is_error = match &answer {
-        Answer::Replies(replies) => {
-            matches!(&replies[..], [one] if one.number().unwrap_or(0) & STATE_ERROR != 0 && one.descriptors.is_empty())
+    seen(answer.is_error_of_state(), answer.text())
+}
+
+impl Answer {
+    /// Whether a transfer was refused, without a descriptor.
+    fn is_error_of_state(&self) -> bool {
+        match self {
+            Answer::Replies(replies) => {
+                matches!(&replies[..], [one] if one.number().unwrap_or(0) & STATE_ERROR != 0 && one.descriptors.is_empty())
+            }
+            answer => answer.has_hung_up(),
         }
-        answer => answer.has_hung_up(),
-    };
-    seen(is_error, answer.text())
+    }
 }
 
 fn garbage_is_loaded(t: &mut Target) -> Outcome {
     let mut c = t.negotiate_with(Feature::DEVICE_STATE)?;
-    let (from, mut to) = pipe()?;
-    let mut reply = c.call(Request::SET_DEVICE_STATE_FD, &u32s(&[1, 0]), &[from.as_raw_fd()])?;
-    drop(from);
-    if reply.number().unwrap_or(STATE_ERROR) & STATE_ERROR != 0 {
-        return seen(true, format!("refused at once: {reply}"));
+    match loaded(&mut c, &[0xa5; 64])? {
+        (reply, None) => seen(true, format!("refused at once: {reply}")),
+        (reply, Some(check)) => seen(check != 0, format!("{reply}, checked {check}")),
     }
-    if let Some(own) = reply.descriptors.pop() {
-        to = File::from(own);
-    }
-    // (one that reads nothing of it has refused it)
-    let _ = to.write_all(&[0xa5; 64]);
-    drop(to);
-    let check = c.number(Request::CHECK_DEVICE_STATE)?;
-    seen(check != 0, format!("{reply}, checked {check}"))
 }
 
 fn checked_without_transfer(t: &mut Target) -> Outcome {

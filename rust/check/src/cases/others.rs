@@ -8,7 +8,6 @@ pub(super) const CASES: &[Case] = &[
     ("NET-02", rarp),
     ("OBJ-01", unknown_object),
     ("SHM-01", shared_memory_regions),
-    ("IOM-01", translation_is_replied_to),
     ("END-02", wrong_endian),
     ("CRY-01", crypto_session),
     ("CON-01", connections_one_by_one),
@@ -49,19 +48,6 @@ fn shared_memory_regions(t: &mut Target) -> Outcome {
     let count = sizes.iter().filter(|it| **it > 0).count();
     let is_right = first.body.len() == 2056 && sizes.iter().all(|it| it % 4096 == 0) && count == u32_at(&first.body, 0) as usize;
     seen(is_right && first.body == second.body, format!("{first}, {count} regions"))
-}
-
-fn translation_is_replied_to(t: &mut Target) -> Outcome {
-    let mut c = t.negotiate()?;
-    if c.offered & IOMMU == 0 {
-        return Err(Stop::Skip("IOMMU_PLATFORM is not offered".to_string()));
-    }
-    let features = c.accepted | IOMMU;
-    c.send(Request::SET_FEATURES, &u64s(&[features]), &[])?;
-    c.give_memory()?;
-    let update = joined(&[&u64s(&[0, 4096, USER]), &[3, 2, 0, 0, 0, 0, 0, 0]]);
-    let replies = c.need(Request::IOTLB_MSG, &update, &[])?;
-    seen(matches!(&replies[..], [one] if one.body.len() == 8), listed(&replies))
 }
 
 fn wrong_endian(t: &mut Target) -> Outcome {

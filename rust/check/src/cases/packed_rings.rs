@@ -72,9 +72,10 @@ impl Packed {
 }
 
 /// All rings, packed, from one place on; nothing was said of them yet.
-pub(super) fn unprepared(t: &mut Target, first: Place) -> Result<Packed, Stop> {
+pub(super) fn unprepared(t: &mut Target, first: Place, with: Feature) -> Result<Packed, Stop> {
     let kind = t.kind()?;
-    let mut c = t.negotiate_by(Terms { features: Some(!(LOG_ALL | IOMMU | EVENT_IDX)), ..Terms::default() })?;
+    let mut c = t.negotiate_by(Terms { features: Some(!(LOG_ALL | IOMMU | EVENT_IDX)), with, ..Terms::default() })?;
+    c.want(with)?;
     if c.accepted & PACKED == 0 {
         return Err(Stop::Skip("packed rings are not offered".to_string()));
     }
@@ -105,7 +106,7 @@ impl Packed {
 
 /// All rings from one place on, packed and started; and enabled, too, or not.
 fn packed(t: &mut Target, first: Place, is_enabled: bool) -> Result<Packed, Stop> {
-    let mut device = unprepared(t, first)?;
+    let mut device = unprepared(t, first, Feature::empty())?;
     device.start(t, first, is_enabled)?;
     Ok(device)
 }

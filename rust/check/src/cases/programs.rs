@@ -2,8 +2,10 @@
 //! The conventions of programs.
 use std::ffi::OsString;
 use std::fs;
+use std::io::Read;
 use std::os::unix::ffi::OsStrExt;
 use std::os::unix::net::{UnixListener, UnixStream};
+use std::path::{Path, PathBuf};
 use std::process::{Child, Command, Stdio};
 
 use super::*;
@@ -16,6 +18,7 @@ pub(super) const CASES: &[Case] = &[
     ("PRG-02", capabilities_are_printed),
     ("PRG-03", serves_a_descriptor),
     ("PRG-04", stays_in_front),
+    ("PRG-05", is_described),
 ];
 
 fn ends_by_sigterm(t: &mut Target) -> Outcome {
@@ -37,17 +40,32 @@ fn program_of(t: &Target) -> Result<Vec<OsString>, Stop> {
     }
 }
 
+/// Whether a file begins as a script.
+fn is_script(word: &OsString) -> bool {
+    let mut begin = [0; 2];
+    File::open(word).and_then(|mut it| it.read_exact(&mut begin)).map_or(false, |()| begin == *b"#!")
+}
+
+/// The words that are the program itself: a script's interpreter is none without it.
+fn own_words(t: &Target) -> Result<Vec<OsString>, Stop> {
+    let mut words = program_of(t)?;
+    words.truncate(if words.get(1).map_or(false, is_script) { 2 } else { 1 });
+    // (a program's name alone is looked for in PATH; what has a folder is to be found from another one, too)
+    for (at, word) in words.iter_mut().enumerate() {
+        if at > 0 || word.as_bytes().contains(&b'/') {
+            *word = fs::canonicalize(&*word).map_err(|cause| Stop::Skip(cause.to_string()))?.into();
+        }
+    }
+    Ok(words)
+}
+
 fn capabilities_are_printed(t: &mut Target) -> Outcome {
-    let program = program_of(t)?.swap_remove(0);
-    // (a name alone is looked for in PATH; what has a folder is to be found from another one, too)
-    let program = match program.as_bytes().contains(&b'/') {
-        true => fs::canonicalize(program).map_err(|cause| Stop::Skip(cause.to_string()))?.into(),
-        false => program,
-    };
+    let words = own_words(t)?;
     let path = t.path().with_file_name("capabilities");
     // (one that does not know the word may take it for a path)
-    let mut command = Command::new(program);
-    let command = command.arg("--print-capabilities").current_dir(t.path().with_file_name("")).stdin(Stdio::null());
+    let mut command = Command::new(&words[0]);
+    let command =
+        command.args(&words[1..]).arg("--print-capabilities").current_dir(t.path().with_file_name("")).stdin(Stdio::null());
     let mut child = in_own_group(command).stdout(File::create(&path)?).stderr(Stdio::null()).spawn()?;
     let process = child.id() as i32;
     if !Patience::new(Some(process), t.limit).wait_until(|| !is_alive(process)) {
@@ -123,5 +141,46 @@ fn stays_in_front(t: &mut Target) -> Outcome {
     match c.process {
         None => Err(Stop::Skip("its process is not known".to_string())),
         Some(process) => seen(family(child).contains(&process), format!("started {child}, {process} listens")),
+    }
+}
+
+/// Where a program lies: below one of the folders of PATH, or where its words say.
+fn place_of(program: &OsString) -> Result<PathBuf, Stop> {
+    if program.as_bytes().contains(&b'/') {
+        return Ok(PathBuf::from(program));
+    }
+    let folders = std::env::var_os("PATH").unwrap_or_default();
+    let found = std::env::split_paths(&folders).find_map(|it| fs::canonicalize(it.join(program)).ok());
+    found.ok_or_else(|| Stop::Skip("it is in no folder of PATH".to_string()))
+}
+
+/// Where a program that is installed has its files of JSON; nothing where it is not.
+fn descriptions_of(program: &Path) -> Option<PathBuf> {
+    let is_for_programs =
+        |it: &&Path| it.file_name().map_or(false, |it| it == "bin" || it == "sbin" || it == "lib" || it == "libexec");
+    let prefix = program.ancestors().skip(1).find(is_for_programs)?.parent()?;
+    prefix.join("share").is_dir().then(|| prefix.join("share/qemu/vhost-user"))
+}
+
+/// The text that a file of JSON has for a name.
+fn value_of<'a>(text: &'a str, name: &str) -> Option<&'a str> {
+    let behind = text.split_once(&format!("\"{name}\""))?.1;
+    behind.trim_start().strip_prefix(':')?.trim_start().strip_prefix('"')?.split('"').next()
+}
+
+/// A program that is installed has a file that names it, and says of which type it is.
+fn is_described(t: &mut Target) -> Outcome {
+    let program = place_of(own_words(t)?.last().ok_or_else(|| Stop::Trouble("no word".to_string()))?)?;
+    let folder = descriptions_of(&program).ok_or_else(|| Stop::Skip("it is not installed".to_string()))?;
+    let files = fs::read_dir(&folder).into_iter().flatten().flatten().map(|it| it.path());
+    let names_it =
+        |text: &String| value_of(text, "binary").map_or(false, |it| fs::canonicalize(it).map_or(false, |it| it == program));
+    let found = files.filter_map(|it| fs::read_to_string(it).ok()).find(names_it);
+    match found {
+        None => seen(false, format!("no file in {} names it", folder.display())),
+        Some(text) => {
+            let kinds = ["type", "description"].map(|it| value_of(&text, it));
+            seen(kinds.iter().all(Option::is_some), format!("{kinds:?}"))
+        }
     }
 }

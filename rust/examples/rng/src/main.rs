@@ -6,15 +6,17 @@
 //! It serves one frontend after another.
 use std::env::args_os;
 use std::error::Error;
+use std::ffi::OsStr;
 use std::fs::File;
 use std::io::{self, copy, Read};
 use std::sync::{Arc, RwLock};
 
 use vhost::vhost_user::VhostUserProtocolFeatures;
-use vhost_user_backend::{VhostUserBackendMut, VhostUserDaemon, VringRwLock, VringT};
+use vhost_user_backend::{Error as Failure, VhostUserBackendMut, VhostUserDaemon, VringRwLock, VringT};
 use virtio_queue::QueueOwnedT;
 use vm_memory::{GuestAddressSpace, GuestMemoryAtomic, GuestMemoryMmap};
 use vmm_sys_util::epoll::EventSet;
+use vmm_sys_util::event::{new_event_consumer_and_notifier, EventConsumer, EventFlag, EventNotifier};
 
 type Memory = GuestMemoryAtomic<GuestMemoryMmap>;
 
@@ -69,7 +71,12 @@ impl VhostUserBackendMut for Rng {
     }
 
     fn protocol_features(&self) -> VhostUserProtocolFeatures {
-        VhostUserProtocolFeatures::MQ
+        VhostUserProtocolFeatures::MQ | VhostUserProtocolFeatures::REPLY_ACK | VhostUserProtocolFeatures::CONFIGURE_MEM_SLOTS
+    }
+
+    /// By which the thread of the queue ends with its session.
+    fn exit_event(&self, _thread: usize) -> Option<(EventConsumer, EventNotifier)> {
+        new_event_consumer_and_notifier(EventFlag::NONBLOCK).ok()
     }
 
     fn set_event_idx(&mut self, _enabled: bool) {}
@@ -84,12 +91,24 @@ impl VhostUserBackendMut for Rng {
     }
 }
 
-fn main() -> Result<(), Box<dyn Error>> {
-    let path = args_os().nth(1).ok_or("usage: rng SOCKET")?;
+/// Serves a frontend by a daemon of its own, which keeps nothing of the one before. Only a socket that cannot be made is an error.
+fn serve(path: &OsStr) -> Result<(), Box<dyn Error>> {
     let memory = GuestMemoryAtomic::new(GuestMemoryMmap::new());
     let device = Rng { source: File::open("/dev/urandom")?, memory: memory.clone() };
     let mut daemon = VhostUserDaemon::new("rng".into(), Arc::new(RwLock::new(device)), memory).map_err(|it| it.to_string())?;
+    match daemon.serve(path) {
+        Err(cause @ Failure::CreateVhostUserListener(_)) => Err(cause.to_string().into()),
+        Err(cause) => {
+            eprintln!("rng: {cause}");
+            Ok(())
+        }
+        Ok(()) => Ok(()),
+    }
+}
+
+fn main() -> Result<(), Box<dyn Error>> {
+    let path = args_os().nth(1).ok_or("usage: rng SOCKET")?;
     loop {
-        daemon.serve(&path).map_err(|it| it.to_string())?;
+        serve(&path)?;
     }
 }

@@ -7,9 +7,10 @@ use Rattle.vhost_backend_req_handler.specs.Opening.{OpensAsBackend, OpensAsGpu}
 use Rattle.vhost_backend_req_handler.specs.Serving.{fitting, kept_unsent}
 use Rattle.vhost_promises.proofs.Faulting.{met-fault}
 use Rattle.vhost_promises.proofs.faults.meets_fault.Goals as goal
+use Rattle.vhost_device.specs.Reached.{by_trait}
 
 pub returns : goal.returns
 returns g c alive met =
     met-fault g.L.Link.event heard_in allows_handles (λ (t : Session). t.failed) kept_unsent
-    (MeetsRow (fitting g.D.VhostUserBackendReqHandlerMut.gives) (λ h o. OpensAsBackend g.L.Link.opens g.L.Handle.Handle.kinds (endpoint_of c.args.core.now).budget h o) (λ h o. OpensAsGpu g.L.Link.opens g.L.Handle.Handle.kinds (endpoint_of c.args.core.now).budget h o))
+    (MeetsRow (fitting (by_trait g.D.VhostUserBackendReqHandlerMut.gives)) (λ h o. OpensAsBackend g.L.Link.opens g.L.Handle.Handle.kinds (endpoint_of c.args.core.now).budget h o) (λ h o. OpensAsGpu g.L.Link.opens g.L.Handle.Handle.kinds (endpoint_of c.args.core.now).budget h o))
     (endpoint_of c.args.core.now) (session_in c.args.core.now) c.args.device.now _ _ _ _ (c.handle_request.ensures.handled alive) met

@@ -7,9 +7,10 @@ use Rattle.vhost_backend_req_handler.specs.Opening.{OpensAsBackend, OpensAsGpu}
 use Rattle.vhost_backend_req_handler.specs.Serving.{fitting, kept_unsent}
 use Rattle.vhost_promises.proofs.Faulting.{run-broken}
 use Rattle.vhost_promises.proofs.faults.stays_broken.Goals as goal
+use Rattle.vhost_device.specs.Reached.{by_trait}
 
 pub returns : goal.returns
 returns g c alive listed cause broken =
     run-broken g.L.Link.event heard_in allows_handles (λ (t : Session). t.failed) kept_unsent
-    (MeetsRow (fitting g.D.VhostUserBackendReqHandlerMut.gives) (λ h o. OpensAsBackend g.L.Link.opens g.L.Handle.Handle.kinds (endpoint_of c.args.core.now).budget h o) (λ h o. OpensAsGpu g.L.Link.opens g.L.Handle.Handle.kinds (endpoint_of c.args.core.now).budget h o)) cause
+    (MeetsRow (fitting (by_trait g.D.VhostUserBackendReqHandlerMut.gives)) (λ h o. OpensAsBackend g.L.Link.opens g.L.Handle.Handle.kinds (endpoint_of c.args.core.now).budget h o) (λ h o. OpensAsGpu g.L.Link.opens g.L.Handle.Handle.kinds (endpoint_of c.args.core.now).budget h o)) cause
     (endpoint_of c.args.core.now) (session_in c.args.core.now) c.args.device.now c.args.count _ _ (endpoint_of c.run.new.self) (session_in c.run.new.self) c.run.new.device c.new-answers.ensures.items alive listed broken c.in_ok-run.ensures.run

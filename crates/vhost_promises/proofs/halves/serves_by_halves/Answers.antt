@@ -18,6 +18,7 @@ use Rattle.vhost_backend_req_handler.specs.Halves.{beside_then}
 use Rattle.vhost_backend_req_handler.specs.Opening.{OpensAsBackend, OpensAsGpu}
 use Rattle.vhost_backend_req_handler.specs.Serving.{Finishes}
 use Rattle.vhost_promises.proofs.halves.serves_by_halves.Goals as goal
+use Rattle.vhost_device.specs.Reached.{by_trait}
 
 pub returns-in-Some : goal.returns-in-Some
 returns-in-Some g c alive =
@@ -33,9 +34,9 @@ returns-in-Some g c alive =
     let finished = subst (λ (r : Request HeardReq). Finishes g.L.Link.event r.code (settled_by p.unanswered (concluded (session_in last) r.need_reply (beside_then p.then last.service) p.then c.in-Some.answer)) (endpoint_of last) (session_in last) c.conclude.result (endpoint_of c.conclude.new.self) (session_in c.conclude.new.self)) q.2 told in
     c.halves_law.ensures.served (endpoint_of c.args.core.now).budget c.args.core.now c.begin.new.self last c.conclude.new.self c.args.device.now c.call_device.new.device c.in-Some.answer c.conclude.result begun
     c.call_device.ensures.endpoint c.call_device.ensures.session c.call_device.ensures.regions
-    (subst (λ (s : Session). Called g.D.VhostUserBackendReqHandlerMut.gives (λ h o. OpensAsBackend g.L.Link.opens g.L.Handle.Handle.kinds (endpoint_of c.args.core.now).budget h o) (λ h o. OpensAsGpu g.L.Link.opens g.L.Handle.Handle.kinds (endpoint_of c.args.core.now).budget h o) c.args.device.now (beside_then p.then last.service)
+    (subst (λ (s : Session). Called (by_trait g.D.VhostUserBackendReqHandlerMut.gives) (λ h o. OpensAsBackend g.L.Link.opens g.L.Handle.Handle.kinds (endpoint_of c.args.core.now).budget h o) (λ h o. OpensAsGpu g.L.Link.opens g.L.Handle.Handle.kinds (endpoint_of c.args.core.now).budget h o) c.args.device.now (beside_then p.then last.service)
     (row_of {B = Backend g.row.L.Denot g.row.L-Handle.Denot} {G = GpuBackend g.row.L.Denot g.row.L-Handle.Denot} begun.reads.message.request s begun.reads.message) (Some c.in-Some.answer) c.call_device.new.device) begun.session
-    (subst (λ (n : ℕ). Called g.D.VhostUserBackendReqHandlerMut.gives (λ h o. OpensAsBackend g.L.Link.opens g.L.Handle.Handle.kinds n h o) (λ h o. OpensAsGpu g.L.Link.opens g.L.Handle.Handle.kinds n h o) c.args.device.now (beside_then p.then last.service)
+    (subst (λ (n : ℕ). Called (by_trait g.D.VhostUserBackendReqHandlerMut.gives) (λ h o. OpensAsBackend g.L.Link.opens g.L.Handle.Handle.kinds n h o) (λ h o. OpensAsGpu g.L.Link.opens g.L.Handle.Handle.kinds n h o) c.args.device.now (beside_then p.then last.service)
     (row_of {B = Backend g.row.L.Denot g.row.L-Handle.Denot} {G = GpuBackend g.row.L.Denot g.row.L-Handle.Denot} begun.reads.message.request (session_in c.begin.new.self) begun.reads.message) (Some c.in-Some.answer) c.call_device.new.device) begun.reads.hears.serves.talks.budget
     (c.in-Some.ensures.called p begun.reads.message (regions_for p.then last.service.regions) begun.is begun.reads.reads begun.reads.hands))) c.conclude.ensures.sized finished
 

@@ -7,6 +7,7 @@ use Rattle.vhost_backend_req_handler.specs.Opening.{OpensAsBackend, OpensAsGpu}
 use Rattle.vhost_backend_req_handler.specs.Serving.{fitting}
 use Rattle.vhost_promises.proofs.Waiting.{all-answered}
 use Rattle.vhost_promises.proofs.runs.answers_whoever_waits.Goals as goal
+use Rattle.vhost_device.specs.Reached.{by_trait}
 
 if-ok : {A E : Type 0} {P Q : A → Type 0} (r : Result A E) → ((a : A) → P a → Q a) → IfOk r P → IfOk r Q
 if-ok (Ok a) so p = so a p
@@ -19,7 +20,7 @@ returns g c = if-ok c.serves_whole.result (λ answers whole sound standard.
       move = w.1.move;
       talks = w.1.talks;
       failures = w.1.failures;
-      all = all-answered (fitting g.D.VhostUserBackendReqHandlerMut.gives) (λ h o. OpensAsBackend g.L.Link.opens g.L.Handle.Handle.kinds (endpoint_of c.args.core.now).budget h o) (λ h o. OpensAsGpu g.L.Link.opens g.L.Handle.Handle.kinds (endpoint_of c.args.core.now).budget h o)
+      all = all-answered (fitting (by_trait g.D.VhostUserBackendReqHandlerMut.gives)) (λ h o. OpensAsBackend g.L.Link.opens g.L.Handle.Handle.kinds (endpoint_of c.args.core.now).budget h o) (λ h o. OpensAsGpu g.L.Link.opens g.L.Handle.Handle.kinds (endpoint_of c.args.core.now).budget h o)
           (map (λ a. seen_result a) answers.items) (session_in c.args.core.now) (session_in c.serves_whole.new.core) c.args.device.now c.serves_whole.new.device w.1.move.handed w.1.move.taken standard w.1.run;
       as_many = w.0;
     }) c.serves_whole.ensures

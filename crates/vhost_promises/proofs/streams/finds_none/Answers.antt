@@ -17,11 +17,12 @@ use Rattle.vhost_joined.specs.Device.{opens, kinds}
 use Rattle.vhost_promises.specs.Streams.{in_body}
 use Rattle.vhost_promises.proofs.Known.{one-none}
 use Rattle.vhost_promises.proofs.streams.finds_none.Goals as goal
+use Rattle.vhost_device.specs.Reached.{by_trait}
 
 pub returns-clause-known : goal.returns-clause-known
 returns-clause-known g c e rest none alive sound =
     one-none heard_in allows_handles (λ (t : Session). t.failed) kept_unsent
-    (MeetsRow (fitting g.D.VhostUserBackendReqHandlerMut.gives) (λ h o. OpensAsBackend opens kinds (endpoint_of c.args.core.now).budget h o) (λ h o. OpensAsGpu opens kinds (endpoint_of c.args.core.now).budget h o)) c.talks_law.ensures.talks
+    (MeetsRow (fitting (by_trait g.D.VhostUserBackendReqHandlerMut.gives)) (λ h o. OpensAsBackend opens kinds (endpoint_of c.args.core.now).budget h o) (λ h o. OpensAsGpu opens kinds (endpoint_of c.args.core.now).budget h o)) c.talks_law.ensures.talks
     (endpoint_of c.args.core.now) (session_in c.args.core.now) c.args.device.now _ (endpoint_of c.handle_request.new.self) (session_in c.handle_request.new.self) c.handle_request.new.device e rest none sound
     (c.handle_request.ensures.handled alive)
 

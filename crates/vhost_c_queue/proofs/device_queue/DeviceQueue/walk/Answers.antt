@@ -1,11 +1,14 @@
-use Rattle.std.proofs.Common.{◌∙◌, true, false, refl, sym, arith}
-use Rattle.vhost_c_queue.proofs.Kept.{kept-none, kept-on}
+use Rattle.std.proofs.Common.{◌∙◌, true, false, sym, arith}
+use Rattle.vhost_c_queue.proofs.Kept.{kept-on}
 use Rattle.vhost_c_queue.proofs.Gone.{walks-on}
-use Rattle.vhost_c_queue.specs.Walking.{chain_of, none}
+use Rattle.vhost_c_queue.proofs.Running.{ran-by}
+use Rattle.vhost_c_queue.specs.Walking.{chain_of}
 use Rattle.vhost_c_queue.proofs.device_queue.DeviceQueue.walk.Goals as goal
 
 pub loop-taken-init : goal.loop-taken-init
-loop-taken-init c = record { walks = none; kept = kept-none _ (chain_of c.args.self.now.ring) _ refl; memory = refl; most = omega arith; few = omega arith; len = refl }
+loop-taken-init c =
+    let is = c.run-taken.ensures in let by = ran-by _ c.args.copies.now _ _ c.args.self.now.ring c.run-taken.new.self.ring is.runs in
+    record { walks = by.walks; kept = by.kept; memory = is.memory; most = is.most.0; few = is.most.1; len = is.len }
 
 pub loop-taken-preserved-then-not-has_rest : goal.loop-taken-preserved-then-not-has_rest
 loop-taken-preserved-then-not-has_rest c =

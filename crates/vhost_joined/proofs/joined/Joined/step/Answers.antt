@@ -7,16 +7,17 @@ use Rattle.vhost_joined.proofs.Ending.{stepped-to-end}
 use Rattle.vhost_joined.proofs.Running.{not-stopped, held}
 use Rattle.vhost_joined.proofs.Stepping.{still-sound, steps-so, sound-so, halts-so, sound-halted}
 use Rattle.vhost_joined.proofs.joined.Joined.step.Goals as goal
+use Rattle.vhost_device.specs.Reached.{by_trait}
 
 pub exchange-requires-clause-quiet : goal.exchange-requires-clause-quiet
 exchange-requires-clause-quiet g c =
     let none = not-stopped (c.self.inside.stopped) (sym c.is_some.ensures ∙ c.if-is_some.false) in
-    (still-sound g.D.VhostUserBackendReqHandlerMut.gives (call_of c.args.call.now) (parts_of c.self.inside.sides) (parts_of c.prepare.new.self) c.prepare.ensures.asking c.prepare.ensures.serving c.prepare.ensures.rest (c.self.invariant none)).nobody
+    (still-sound (by_trait g.D.VhostUserBackendReqHandlerMut.gives) (call_of c.args.call.now) (parts_of c.self.inside.sides) (parts_of c.prepare.new.self) c.prepare.ensures.asking c.prepare.ensures.serving c.prepare.ensures.rest (c.self.invariant none)).nobody
 
 pub returns-in-Ok : goal.returns-in-Ok
 returns-in-Ok g c =
     let none = not-stopped (c.self.inside.stopped) (sym c.is_some.ensures ∙ c.if-is_some.false) in
-    let gives = g.D.VhostUserBackendReqHandlerMut.gives in
+    let gives = by_trait g.D.VhostUserBackendReqHandlerMut.gives in
     let lists = held c.prepare.result _ (sym c.is_err.ensures.value ∙ c.if-is_err.false) c.prepare.ensures.lists in
     let stepped : Steps gives c.args.self.now (call_of c.args.call.now) (Ok c.in-Ok.done.answer) (as_view (parts_of c.exchange.new.self) c.in-Ok.done.stop) =
     subst (λ v. Steps gives v (call_of c.args.call.now) (Ok c.in-Ok.done.answer) (as_view (parts_of c.exchange.new.self) c.in-Ok.done.stop)) c.self.view_is
@@ -32,7 +33,7 @@ returns-in-Ok g c =
 pub returns-in-Err : goal.returns-in-Err
 returns-in-Err g c =
     let none = not-stopped (c.self.inside.stopped) (sym c.is_some.ensures ∙ c.if-is_some.false) in
-    let gives = g.D.VhostUserBackendReqHandlerMut.gives in
+    let gives = by_trait g.D.VhostUserBackendReqHandlerMut.gives in
     let stepped : Steps gives c.args.self.now (call_of c.args.call.now) (Err c.in-Err.halt) (as_view (parts_of c.exchange.new.self) c.self.inside.stopped) =
     subst (λ v. Steps gives v (call_of c.args.call.now) (Err c.in-Err.halt) (as_view (parts_of c.exchange.new.self) c.self.inside.stopped)) c.self.view_is
     (halts-so gives (call_of c.args.call.now) (parts_of c.self.inside.sides) (parts_of c.prepare.new.self) c.prepare.ensures.asking c.prepare.ensures.serving c.prepare.ensures.rest
@@ -48,10 +49,10 @@ pub invariant_of-self-in-Ok : goal.invariant_of-self-in-Ok
 invariant_of-self-in-Ok g c on =
     let none = not-stopped (c.self.inside.stopped) (sym c.is_some.ensures ∙ c.if-is_some.false) in
     let lists = held c.prepare.result _ (sym c.is_err.ensures.value ∙ c.if-is_err.false) c.prepare.ensures.lists in
-    sound-so g.D.VhostUserBackendReqHandlerMut.gives (call_of c.args.call.now) (parts_of c.self.inside.sides) (parts_of c.prepare.new.self) c.prepare.ensures.asking c.prepare.ensures.serving c.prepare.ensures.rest
+    sound-so (by_trait g.D.VhostUserBackendReqHandlerMut.gives) (call_of c.args.call.now) (parts_of c.self.inside.sides) (parts_of c.prepare.new.self) c.prepare.ensures.asking c.prepare.ensures.serving c.prepare.ensures.rest
     c.in-Ok.done (parts_of c.exchange.new.self) (c.self.invariant none) lists c.in-Ok.ensures.done on
 
 pub invariant_of-self-in-Err : goal.invariant_of-self-in-Err
 invariant_of-self-in-Err g c on =
-    sound-halted g.D.VhostUserBackendReqHandlerMut.gives (call_of c.args.call.now) (parts_of c.self.inside.sides) (parts_of c.prepare.new.self) c.prepare.ensures.asking c.prepare.ensures.serving c.prepare.ensures.rest
+    sound-halted (by_trait g.D.VhostUserBackendReqHandlerMut.gives) (call_of c.args.call.now) (parts_of c.self.inside.sides) (parts_of c.prepare.new.self) c.prepare.ensures.asking c.prepare.ensures.serving c.prepare.ensures.rest
     c.in-Err.halt (parts_of c.exchange.new.self) (c.self.invariant on) c.in-Err.ensures.done

@@ -9,6 +9,7 @@ use Rattle.vhost_joined.proofs.Limited.{handles-some}
 use Rattle.vhost_joined.proofs.Handing.{shut-same}
 use Rattle.vhost_joined.proofs.Spent.{End}
 use Rattle.vhost_joined.proofs.sides.Sides.hand_over.Goals as goal
+use Rattle.vhost_device.specs.Reached.{by_trait}
 
 pub returns-then-is_err-clause-handed : goal.returns-then-is_err-clause-handed
 returns-then-is_err-clause-handed g c =
@@ -24,7 +25,7 @@ returns-then-is_err-2-clause-handed g c =
     let d2 = c.handle_request-served.new.device in
     let s2 = session_in c.handle_request-served.new.self in
     let result = c.handle_request-served.result in
-    let gives = g.D.VhostUserBackendReqHandlerMut.gives in
+    let gives = by_trait g.D.VhostUserBackendReqHandlerMut.gives in
     let reached : Reached gives (parts_of c.args.self.now) result (state c.carry.new.from) (serving c.handle_request-served.new.self) (text_in c.copy.new.wire) s2 d2 = record {
       serving_then = state c.carry.new.to;
       there = carried c.carry.result _ _ _ _ _ _ c.endpoint_mut.ensures.value c.endpoint_mut-2.ensures.value (sym c.is_err.ensures.value ∙ c.if-is_err.false) c.carry.ensures.carried;
@@ -43,7 +44,7 @@ returns-clause-handed g c = sides.handed (record {
   reached = record {
     serving_then = state c.carry.new.to;
     there = carried c.carry.result _ _ _ _ _ _ c.endpoint_mut.ensures.value c.endpoint_mut-2.ensures.value (sym c.is_err.ensures.value ∙ c.if-is_err.false) c.carry.ensures.carried;
-    handled = λ none. handles-some g.D.VhostUserBackendReqHandlerMut.gives _ _ _ _ _ _ _ _ none (c.handle_request-served.ensures.handled none);
+    handled = λ none. handles-some (by_trait g.D.VhostUserBackendReqHandlerMut.gives) _ _ _ _ _ _ _ _ none (c.handle_request-served.ensures.handled none);
     copied = copied _ _ _ c.endpoint_mut-3.ensures.value c.copy.ensures.text;
   };
   back = carried c.carry-2.result _ _ _ _ _ _ (c.endpoint_mut-4.ensures.value ∙ c.copy.ensures.same ∙ c.endpoint_mut-3.ensures.value) c.endpoint_mut-5.ensures.value (sym c.is_err-2.ensures.value ∙ c.if-is_err-2.false) c.carry-2.ensures.carried;
