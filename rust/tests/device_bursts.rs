@@ -194,7 +194,7 @@ fn expect_bursts(bursts: &[usize], mut play: impl FnMut() -> Vec<usize>) {
     let most = bursts.iter().max();
     let is_whole = (0..100).any(|_| {
         let counts = play();
-        assert_eq!(bursts.iter().sum::<usize>(), counts.iter().sum(), "{counts:?}");
+        assert_eq!(bursts.iter().sum::<usize>(), counts.iter().sum::<usize>(), "{counts:?}");
         assert!(counts.iter().max() <= most, "{counts:?}");
         counts == bursts
     });
