@@ -29,6 +29,7 @@ END
 
 . "$top/scripts/build/options.sh"
 . "$top/scripts/build/library.sh"
+. "$top/tests/waiting.sh"
 . "$top/tests/c_groups.sh"
 
 # -- What the groups are linked with: it is compiled once --

@@ -125,16 +125,6 @@ play() {
     runs "$room/$tests"
 }
 
-# Waits until a backend that runs in the background listens at a path, ten minutes: ./vhost-daemon may have to be compiled.
-wait_for() {
-    for _ in $(seq 6000); do
-        [ -S "$1" ] && return
-        kill -0 "$2" 2>/dev/null || break
-        sleep 0.1
-    done
-    echo "nobody listens at $1"
-}
-
 # patient LIMIT PROCESS [OTHER..]: the status of a process in the background, which is ended where it has spent its limit.
 patient() {
     "$top/scripts/patience.py" "$@" || kill "$2"
@@ -416,6 +406,7 @@ without_proc() {
     fi
     ended=0
     for column in 2 3; do
+        rm -f socket # (one that was ended by a signal left it)
         unshare $as_root --mount sh -c "[ $column = 2 ] || mount -t tmpfs none /proc && exec '$room/plain/rng' socket pipe" >served &
         backend=$!
         wait_for socket "$backend"

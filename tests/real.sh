@@ -49,6 +49,7 @@ END
 . "$top/scripts/build/crates.sh"
 . "$top/scripts/build/options.sh"
 . "$top/scripts/build/library.sh"
+. "$top/tests/waiting.sh"
 
 machines='machine_boot machine_boot_byte_by_byte machine_migration machine_postcopy machine_killed machine_packed machine_memory machine_resized machine_fio'
 machines="$machines machine_uncached machine_devices machine_display machine_entropy machine_frames machine_vsock machine_ping machine_ping_migration"
@@ -241,11 +242,6 @@ running=
 failed=0
 passed=0
 
-# Whether a process of this script is there and has not ended.
-is_running() {
-    grep -q '^State:[[:space:]]*[^ZX]' "/proc/$1/status" 2>/dev/null
-}
-
 # Waits until a process of this script has ended, until so many seconds were spent by all that run (scripts/patience.py). Then it is told to
 # end, and killed where it does not. Its status.
 finish() {
@@ -373,7 +369,7 @@ disk_turned() { asked_disk turned; }
 asked_lines() {
     seq 700000 | head -c 4194304 >image
     serve_disk
-    until [ -S socket ] || ! is_running "$backend"; do sleep 0.1; done
+    wait_for socket "$backend" >>backend.log
     { sed 's/|.*//' "$top/c/real/asked.txt"; echo nonsense; } | "$room/asked" --limit=1000 --fd 5=memory:0x100000 socket >came 2>program.log 9<&-
     ended=$?
     kill "$backend"
@@ -396,7 +392,7 @@ END
 asked_frontend() {
     seq 700000 | head -c 4194304 >image
     serve_disk
-    until [ -S socket ] || ! is_running "$backend"; do sleep 0.1; done
+    wait_for socket "$backend" >>backend.log
     "$room/frontend" socket fds >came 2>program.log 9<&-
     ended=$?
     kill "$backend"

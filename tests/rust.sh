@@ -37,6 +37,7 @@ END
 . "$top/scripts/build/crates.sh"
 . "$top/scripts/build/options.sh"
 . "$top/scripts/build/library.sh"
+. "$top/tests/waiting.sh"
 [ $# = 0 ] || refuse
 for tool in cargo rustfmt python3; do
     command -v "$tool" >/dev/null || { tell "no $tool on PATH"; exit 3; }
@@ -163,21 +164,12 @@ dissects_packets() {
     told dissected "$ended"
 }
 
-# Waits until a process that runs has a socket at this path: so many tenths of a second at most.
-wait_for_socket() {
-    for _ in $(seq "$3"); do
-        [ ! -S "$2" ] || break
-        kill -0 "$1" 2>/dev/null || break
-        sleep 0.1
-    done
-}
-
 # The example against the daemon, where there is rt to compile that.
 asks_the_daemon() {
     command -v rt >/dev/null || return
     "$top/vhost-daemon" "$room/daemon.socket" 1 >"$room/daemon" 2>&1 &
     daemon=$!
-    wait_for_socket "$daemon" "$room/daemon.socket" 6000
+    wait_for "$room/daemon.socket" "$daemon"
     run_cargo run --example ask -- "$room/daemon.socket" >"$room/said" 2>&1
     ended=$?
     [ "$ended" = 0 ] || kill "$daemon" 2>/dev/null
@@ -192,7 +184,7 @@ asks_the_storage_daemon() {
     qemu-storage-daemon --blockdev driver=null-co,node-name=disk,size=1048576 \
         --export type=vhost-user-blk,id=export,node-name=disk,addr.type=unix,addr.path="$room/disk.socket" >"$room/daemon" 2>&1 &
     daemon=$!
-    wait_for_socket "$daemon" "$room/disk.socket" 100
+    wait_for "$room/disk.socket" "$daemon"
     run_cargo run --example ask -- "$room/disk.socket" >"$room/said" 2>&1 &&
         grep -q '^protocol features: .*CONFIG' "$room/said" && grep -q '^rings: 1$' "$room/said"
     ended=$?
@@ -207,7 +199,7 @@ asks_the_storage_daemon() {
 asks_through_the_tap() {
     target/debug/covretin-tap --count=1 "$room/tap.socket" "$1" >"$room/tapped" 2>&1 &
     tap=$!
-    wait_for_socket "$tap" "$room/tap.socket" 100
+    wait_for "$room/tap.socket" "$tap"
     run_cargo run --example ask -- "$room/tap.socket" 2>&1 | diff "$room/said" - && wait "$tap"
     ended=$?
     [ "$ended" = 0 ] || { kill "$tap" 2>/dev/null; cat "$room/tapped"; }
@@ -237,7 +229,7 @@ compile_frontend() {
 serves_the_frontends() {
     target/debug/examples/serve "$room/serve.socket" 2 >"$room/daemon" 2>&1 &
     daemon=$!
-    wait_for_socket "$daemon" "$room/serve.socket" 100
+    wait_for "$room/serve.socket" "$daemon"
     run_cargo run --example ask -- "$room/serve.socket" >"$room/said" 2>&1 && diff tests/expected/daemon.ask "$room/said" &&
         "$room/frontend" "$room/serve.socket" >"$room/said" 2>&1 && diff "$top/c/tests/expected/daemon.frontend" "$room/said"
     ended=$?
@@ -445,7 +437,7 @@ fn main() -> Result<(), vhost::Error> {
 END
     target/debug/examples/serve "$room/program.socket" 1 >"$room/daemon" 2>&1 &
     daemon=$!
-    wait_for_socket "$daemon" "$room/program.socket" 100
+    wait_for "$room/program.socket" "$daemon"
     (cd "$room/program" && run_cargo run -- "$room/program.socket") >"$room/said" 2>&1 && grep -q '^[0-9]* rings$' "$room/said"
     ended=$?
     [ "$ended" = 0 ] || { kill "$daemon" 2>/dev/null; cat "$room/said"; }
