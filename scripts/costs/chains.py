@@ -98,25 +98,27 @@ def counted(devices):
 
 KEPT = f"{TOP}/c/tests/chains.tsv"
 SOURCES = f"{TOP}/c/bench/chains"
-PARTS = ["chains", "driver", "covretin"]
+# Devices that take their chains by single calls, and by those for many.
+DEVICES = ["covretin", "covretin_many"]
 # Of the least ring and of the greatest, whose chains cost the same.
 SIZES = [(1, "direct", "flags", 1, size) for size in (64, 32768)]
 
 
-def compiled(library, room):
+def compiled(library, room, device):
     """The program, and the names of its own functions."""
-    flags, made = ["-std=gnu11", "-O2", "-I", f"{TOP}/include", "-I", SOURCES], [f"{room}/{part}.o" for part in PARTS]
-    for part, at in zip(PARTS, made):
+    parts = ["chains", "driver", device]
+    flags, made = ["-std=gnu11", "-O2", "-I", f"{TOP}/include", "-I", SOURCES], [f"{room}/{part}.o" for part in parts]
+    for part, at in zip(parts, made):
         ran(["cc", *flags, "-c", "-o", at, f"{SOURCES}/{part}.c"])
     ran(["cc", *flags, "-o", f"{room}/chains", *made, library, f"{TOP}/c/covretin_memory.c"])
     return f"{room}/chains", {line.split()[-1] for line in ran(["nm", *made]).splitlines() if re.search(r" [tT] \S+$", line)}
 
 
-def counted_within(library):
+def counted_within(library, device):
     """How many instructions a chain of each shape takes in the library."""
     counts = {}
     with tempfile.TemporaryDirectory() as room:
-        program, others = compiled(library, room)
+        program, others = compiled(library, room, device)
         for shape in SHAPES:
             seen = []
             for count in FEW // 10, MANY // 10:
@@ -124,6 +126,11 @@ def counted_within(library):
                 seen.append(own(f"{room}/part", program, others))
             counts[told(shape)] = round((seen[1] - seen[0]) * 10 / (MANY - FEW))
     return counts
+
+
+def rows(counts):
+    """What each device's counts are called."""
+    return {f"{device} {shape}": count for device, of_it in counts.items() for shape, count in of_it.items()}
 
 
 def is_off(count, other):
@@ -136,16 +143,17 @@ def within(library, is_written):
         if not shutil.which(tool):
             print(f"chains: no {tool} on PATH", file=sys.stderr)
             sys.exit(3)
-    counts = counted_within(library)
+    counts = {device: counted_within(library, device) for device in DEVICES}
     if is_written:
         with open(KEPT, "w", encoding="utf-8") as table:
-            table.writelines(f"{shape}\t{count}\n" for shape, count in counts.items())
+            table.writelines(f"{row}\t{count}\n" for row, count in rows(counts).items())
         return True
     kept = {row[0]: int(row[1]) for row in (line.split("\t") for line in open(KEPT, encoding="utf-8"))}
-    bad = [f"{shape}: {count} instructions, and not {kept.get(shape)}" for shape, count in counts.items() if is_off(count, kept.get(shape))]
-    bad += [f"{shape} is counted no more" for shape in kept if shape not in counts]
-    small, great = (counts[told(shape)] for shape in SIZES)
-    bad += [f"a ring's size changes what a chain costs: {small} and {great} instructions"] if is_off(small, great) else []
+    bad = [f"{row}: {count} instructions, and not {kept.get(row)}" for row, count in rows(counts).items() if is_off(count, kept.get(row))]
+    bad += [f"{row} is counted no more" for row in kept if row not in rows(counts)]
+    for device, of_it in counts.items():
+        small, great = (of_it[told(shape)] for shape in SIZES)
+        bad += [f"{device}: a ring's size changes what a chain costs: {small} and {great} instructions"] if is_off(small, great) else []
     for line in bad:
         print(line, file=sys.stderr)
     return not bad
