@@ -32,6 +32,9 @@ ROWS = ("tests/programs/try_run.py", "tests/programs/try_lines.py")
 # What compiles a program by the names of the crates alone.
 CLIENT = "tests/client.py"
 
+# What tries the list of requests with entries that are malformed. It needs no kit, so it is of the crate of the scripts.
+ENTRIES = "tests/programs/try_requests.py"
+
 # What plays lines, and all other sessions, as the crate of a program and whether it is its tests: the library is of no program.
 RUN, LIBRARY = ("vhost_run", False), ("the library for C", False)
 
@@ -79,6 +82,7 @@ def scripts():
         needs = [RUN] * (b"lines" in kinds) + [LIBRARY] * (kinds != {b"lines"})
         broken = "" if wanted else f"{PRINTED} has no line of it, so nobody sees that it is played"
         yield Play("scripts", f"{SCRIPTS}/{name}", wanted=b"".join(wanted), script=True, needs=needs, broken=broken)
+    yield Play("scripts", ENTRIES, rows=True, alone=True)
     if left:
         yield Play("scripts", PRINTED, script=True, broken=f"{left[0].decode()!r} is of no script")
 

@@ -10,7 +10,8 @@ and expects of each; what Wireshark shows; and why one was refused, as the tap s
 calls' declarations in C and Rust and those of a device; records, codes and features on the pages of docs/protocol; the names of bits in Wireshark;
 that each request has a script; and that each reason is said by its name, and nowhere in words of its own.
 A request that is `like` another one has rows wherever that one has them: --write copies them with its own names, each behind the other's, and tells what
-it cannot copy; else it tells which files lack them. Status 2 where there is no request of a name.
+it cannot copy; else it tells which files lack them. Where an entry lacks a key, or has a value that no table takes, a line says which, and nothing is written.
+Status 1 where that is so; 2 where there is no request of a name.
 """
 import glob
 import json
@@ -19,11 +20,10 @@ import re
 import subprocess
 import sys
 
+from entries import Malformed, entries
 from request_tables import BEGINS, ENDS, SOURCE, TABLES, VALUE, by_hand, camel, own_calls, served, written
 
 TOP = os.path.dirname(os.path.dirname(os.path.dirname(os.path.realpath(__file__))))
-KEYS = {"code", "name", "like", "call", "device", "wider", "words", "usage", "args", "body", "fds", "reply", "feature", "c", "wants", "shown", "reply_shown", "text"}
-
 # Calls for C that are forms of another one.
 FORMS_IN_C = {"set_log_base_alone", "get_config_bytes"}
 # A feature that a frontend needs, and that a backend does not ask for.
@@ -34,22 +34,6 @@ PAGES = {"asking": "docs/protocol/asking.md", "serving": "docs/protocol/serving.
 def read(path):
     with open(f"{TOP}/{path}", encoding="utf-8") as file:
         return file.read()
-
-
-def entries():
-    """The entries by their kind. Of TOML are read tables of a list, and a number or a text behind each key."""
-    found = {"frontend": [], "backend": [], "display": [], "call": [], "asked": [], "reason": [], "rule": []}
-    for number, line in enumerate(read(SOURCE).split("\n"), 1):
-        head = re.fullmatch(r"\[\[(\w+)\]\]", line)
-        pair = re.fullmatch(r"(\w+) = (\d+|\".*\")", line)
-        if head and head[1] in found:
-            found[head[1]].append({})
-            entry = found[head[1]][-1]
-        elif pair and pair[1] in KEYS and pair[1] not in entry:
-            entry[pair[1]] = json.loads(pair[2])
-        elif line and not line.startswith("#"):
-            sys.exit(f"{SOURCE}:{number}: this line is none of its form")
-    return found
 
 
 class Told:
@@ -385,8 +369,13 @@ def like(top, kinds, told, writes):
             told.has(path, f"{it['name']}, which is like {it['like']}", not copy.lacks(text))
 
 
-def show(kinds, names):
+def show(names):
     """The entries of these names, and where they stand."""
+    try:
+        kinds = entries(read(SOURCE))
+    except Malformed as wrong:
+        print("\n".join(wrong.args), file=sys.stderr)
+        return 1
     for name in names:
         found = [it for kind in kinds.values() for it in kind if name in (it.get("name"), it.get("call"))]
         if not found:
@@ -400,7 +389,10 @@ def show(kinds, names):
 
 
 def requests(write):
-    kinds, told = entries(), Told()
+    try:
+        kinds, told = entries(read(SOURCE)), Told()
+    except Malformed as wrong:
+        return list(wrong.args)
     like(TOP, kinds, told, write)
     tables(kinds, told, write)
     for check in (calls, pages, scripts, dissector, reasons):
@@ -409,4 +401,4 @@ def requests(write):
 
 
 if __name__ == "__main__":
-    sys.exit(show(entries(), sys.argv[1:]))
+    sys.exit(show(sys.argv[1:]))
