@@ -6,8 +6,9 @@
 #                         and covretin-console; and for x86-64 vhost-run and vhost-daemon, which are proved
 #   make check            the tests in C, a line for each group; V=1 also shows how all is compiled
 #   make install          all of these, and covretin, which runs them, to PREFIX, or BINDIR, LIBDIR, INCLUDEDIR, DATADIR, MANDIR, UNITDIR;
-#                         below DESTDIR; also build/covretin-tap and covretin-check, where cargo's were put there; and the dissector for
-#                         Wireshark to PLUGINDIR, which Wireshark reads where it has the same PREFIX and LIBDIR
+#                         below DESTDIR; also build/covretin-tap and covretin-check, where cargo's were put there; pages of the manual, those of
+#                         section 3 made of the headers; what bash completes, to COMPLETIONSDIR; and the dissector for Wireshark to
+#                         PLUGINDIR, which Wireshark reads where it has the same PREFIX and LIBDIR
 #   make uninstall        removes what that put there
 #   make dist             covretin-VERSION.tar.xz, the same bytes wherever it is made, and SHA256SUMS
 #   make crate            the package for Rust as cargo packs it, in rust/target/package; CARGO names another cargo, with its options
@@ -27,6 +28,7 @@ UNITDIR ?= $(PREFIX)/lib/systemd/system
 DOCDIR ?= $(DATADIR)/doc/covretin
 MANDIR ?= $(DATADIR)/man
 PLUGINDIR ?= $(LIBDIR)/wireshark/plugins
+COMPLETIONSDIR ?= $(DATADIR)/bash-completion/completions
 DESTDIR ?=
 INSTALL ?= install
 CFLAGS ?= -O2
@@ -140,7 +142,7 @@ check:
 
 BACKENDS = $(DATADIR)/qemu/vhost-user
 FOLDERS = $(BINDIR) $(LIBDIR)/pkgconfig $(INCLUDEDIR) $(DATADIR)/covretin $(BACKENDS) $(UNITDIR) $(PLUGINDIR) $(DOCDIR)/examples $(MANDIR)/man1 \
-    $(MANDIR)/man7
+    $(MANDIR)/man3 $(MANDIR)/man7 $(COMPLETIONSDIR)
 HEADERS := $(wildcard include/*.h)
 EXAMPLES := c/frontend.c c/rng.c c/blk.c c/net.c c/covretin_transport.h
 DESCRIPTORS := $(notdir $(wildcard c/tools/*.json))
@@ -159,11 +161,21 @@ $(BUILD)/%@.socket: c/tools/units/device@.socket FORCE
 
 PAGES1 := $(notdir $(wildcard man/*.1))
 PAGES7 := $(notdir $(wildcard man/*.7))
+# A page for each header, made of it, and one for each of its functions that leads there.
+MANUAL = awk -v header=$$(basename $$it .h) -v version=$(VERSION)
+pages3: FORCE
+	@rm -rf $(BUILD)/man3 && mkdir -p $(BUILD)/man3
+	@for it in $(HEADERS); do \
+	    $(MANUAL) -f scripts/build/manual.awk $$it >$(BUILD)/man3/$$(basename $$it .h).3 || exit; \
+	    for name in $$($(MANUAL) -v list=1 -f scripts/build/manual.awk $$it); do \
+	        echo ".so man3/$$(basename $$it .h).3" >$(BUILD)/man3/$$name.3 || exit; \
+	    done; \
+	done
 
 # (what was built, and cargo's)
 INSTALLED = covretin $(PROGRAMS:%=$(BUILD)/%) $(wildcard $(BUILD)/covretin-tap $(BUILD)/covretin-check)
 
-install: all programs $(UNITS:%=$(BUILD)/%)
+install: all programs pages3 $(UNITS:%=$(BUILD)/%)
 	$(INSTALL) -d -m 755 $(FOLDERS:%=$(DESTDIR)%)
 	$(INSTALL) -m 644 $(BUILD)/libcovretin.a $(DESTDIR)$(LIBDIR)
 	$(INSTALL) -m 755 $(BUILD)/$(SHARED) $(DESTDIR)$(LIBDIR)
@@ -179,7 +191,9 @@ install: all programs $(UNITS:%=$(BUILD)/%)
 	$(INSTALL) -m 644 $(UNITS:%=$(BUILD)/%) $(DESTDIR)$(UNITDIR)
 	$(INSTALL) -m 644 protocol/vhost_user.lua $(DESTDIR)$(PLUGINDIR)
 	$(INSTALL) -m 644 $(PAGES1:%=man/%) $(DESTDIR)$(MANDIR)/man1
+	$(INSTALL) -m 644 $(BUILD)/man3/*.3 $(DESTDIR)$(MANDIR)/man3
 	$(INSTALL) -m 644 $(PAGES7:%=man/%) $(DESTDIR)$(MANDIR)/man7
+	$(INSTALL) -m 644 man/covretin.bash $(DESTDIR)$(COMPLETIONSDIR)/covretin
 
 uninstall:
 	rm -f $(addprefix $(DESTDIR)$(BINDIR)/,covretin covretin-tap covretin-check $(PROGRAMS))
@@ -187,6 +201,7 @@ uninstall:
 	rm -f $(HEADERS:include/%=$(DESTDIR)$(INCLUDEDIR)/%)
 	rm -rf $(DESTDIR)$(DATADIR)/covretin $(DESTDIR)$(DOCDIR)
 	rm -f $(DESCRIPTORS:%=$(DESTDIR)$(BACKENDS)/%) $(UNITS:%=$(DESTDIR)$(UNITDIR)/%)
+	rm -f $(DESTDIR)$(MANDIR)/man3/covretin*.3 $(DESTDIR)$(COMPLETIONSDIR)/covretin
 	rm -f $(DESTDIR)$(PLUGINDIR)/vhost_user.lua $(PAGES1:%=$(DESTDIR)$(MANDIR)/man1/%) $(PAGES7:%=$(DESTDIR)$(MANDIR)/man7/%)
 
 # Git says which files; what a tarball was unpacked to has no others. Each has the commit's time.
@@ -212,4 +227,4 @@ clean:
 
 FORCE:
 
-.PHONY: all programs check install uninstall dist crate clean FORCE
+.PHONY: all programs check pages3 install uninstall dist crate clean FORCE

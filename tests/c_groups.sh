@@ -456,6 +456,7 @@ installs() {
     installs_the_same
     installs_all
     installs_the_programs
+    completes
     statuses
     serves_an_example
     describes_devices
@@ -467,7 +468,7 @@ installs() {
 installs_the_same() {
     mkdir elsewhere
     cp -pr "$top/Makefile" "$top/covretin" "$top/VERSION" "$top/include" "$top/c" "$top/man" "$top/protocol" "$top/generated" elsewhere/
-    mkdir -p elsewhere/scripts/build && cp -p "$top/scripts/build/needs.sh" elsewhere/scripts/build/
+    mkdir -p elsewhere/scripts/build && cp -p "$top/scripts/build/needs.sh" "$top/scripts/build/manual.awk" elsewhere/scripts/build/
     make -s -C "$top" BUILD="$PWD/build" install DESTDIR="$PWD/system" PREFIX=/usr &&
         (umask 077 && make -s -C elsewhere install DESTDIR="$PWD/second" PREFIX=/usr) && diff -r system second &&
         [ -z "$(find second ! -type l ! -perm -444)" ]
@@ -511,6 +512,31 @@ installs_all() {
     told symbols_file_of_debian_has_each_function $?
     [ "$(pkg-config --modversion covretin)" = "$(cat "$top/VERSION")" ]
     told install_has_the_version $?
+    installs_the_manual
+}
+
+# Each function of the headers has a page, which leads to that of its header, where it stands with what the header says of it.
+installs_the_manual() {
+    manual=system/usr/share/man
+    told=0
+    while read -r name; do
+        page=$(sed 's/^\.so //' "$manual/man3/$name.3") && grep -qx ".SS $name" "$manual/$page" || { echo "no page has $name"; told=1; }
+    done <declared
+    [ "$(cat "$manual"/man3/*.3 | grep -c '^\.SS ')" = "$(wc -l <declared)" ] || { echo "the pages have other functions"; told=1; }
+    grep -q 'No call raises SIGPIPE, and no signal interrupts one' "$manual/man3/covretin_socket.3" || told=1
+    told manual_has_each_function "$told"
+}
+
+# What bash completes behind covretin is what its help says.
+completes() {
+    completed=$(PATH=$PWD/system/usr/bin:$PATH bash -c '. "$0"
+        complete_words() { COMP_WORDS=("$@"); COMP_CWORD=$(($# - 1)); COMPREPLY=(); _covretin; echo "${COMPREPLY[*]}"; }
+        complete_words covretin n
+        complete_words covretin serve ""
+        complete_words covretin disk --blk
+        complete_words covretin nothing --' system/usr/share/bash-completion/completions/covretin)
+    [ "$(echo $completed)" = 'net example --blk-file=' ]
+    told bash_completes_commands_and_options $?
 }
 
 # What it installs is one program by which the others are run.
