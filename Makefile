@@ -11,6 +11,7 @@
 #                         PLUGINDIR, which Wireshark reads where it has the same PREFIX and LIBDIR
 #   make uninstall        removes what that put there
 #   make dist             covretin-VERSION.tar.xz, the same bytes wherever it is made, and SHA256SUMS
+#   make sbom             covretin-VERSION.spdx, the licence and the sum of each file, by the program reuse
 #   make crate            the package for Rust as cargo packs it, in rust/target/package; CARGO names another cargo, with its options
 #   make clean
 #
@@ -216,6 +217,10 @@ dist:
 	    xz -9 -T1 >$(TARBALL)
 	sha256sum $(TARBALL) >SHA256SUMS
 
+# Which licence each file has, in the words of SPDX 2.
+sbom:
+	reuse spdx --output covretin-$(VERSION).spdx
+
 # Cargo packs what lies in the package alone, and the gate takes no links.
 CARGO ?= cargo
 crate:
@@ -227,4 +232,4 @@ clean:
 
 FORCE:
 
-.PHONY: all programs check pages3 install uninstall dist crate clean FORCE
+.PHONY: all programs check pages3 install uninstall dist sbom crate clean FORCE

@@ -7,10 +7,10 @@ program="test release"
 usage() {
     cat <<END
 usage: ./test release            makes the tarball, and does with it what a user does on a machine without the Rattle kit: make check and
-                                 make install, changes of the assembly that have to be found, a backtrace through the proved code, a
+                                 make install, the licence of each file, changes of the assembly that have to be found, a backtrace through the proved code, a
                                  program by pkg-config, devices that systemd starts by their units, the first steps of README and of the
                                  guides for C and Rust, the package for Rust, ./vhost-run and ./vhost-daemon, the tap's pages in a browser,
-                                 Debian's packages; the library and the programs for aarch64, by emulation; and the C around the proved
+                                 Debian's packages and their tests; the library and the programs for aarch64, by emulation; and the C around the proved
                                  core, checked by a model checker
        ./test release NAME..     these rows alone, by the names that it prints; and two that install a bare Debian from the network, as
                                  root: bare_system makes the steps of .github/workflows/check.yml there, and bare_installed installs the
@@ -23,8 +23,8 @@ ten minutes of one processor.
 
 Needed: make, cc, pkg-config, python3, git, xz; for Rust what ./test rust needs; for Debian's packages dpkg-dev, debhelper, lintian, cargo and the crates
 of ./test rust; for aarch64 gcc-aarch64-linux-gnu, libc6-dev-arm64-cross and qemu-user, and for its programs in Rust the packages rustc and
-libstd-rust-dev:arm64; for the units root, systemd, and cgroup2 and overlayfs of the kernel; for the tap's pages chromium; for the model checker
-cbmc, which Debian 13 has; for a bare Debian debootstrap, and for bare_installed linux-image-amd64, busybox-static, cpio and e2fsprogs. No other row uses the network.
+libstd-rust-dev:arm64; for the units root, systemd, and cgroup2 and overlayfs of the kernel; for the tap's pages chromium; for the licences
+reuse; for the model checker cbmc, which Debian 13 has; for a bare Debian debootstrap, and for bare_installed linux-image-amd64, busybox-static, cpio and e2fsprogs. No other row uses the network.
 
 Status: 0 where all passed; 1 where a row failed; 2 after wrong arguments; 3 where something is missing.
 END
@@ -32,7 +32,7 @@ END
 
 . "$top/scripts/build/options.sh"
 
-rows='tarball tampers sums rust_sums unwinding protected installs_for_programs units_serve checks first_answer pages rust_builds rust_packaged drawn_arrows drawn_quickly debian_packages aarch64_library aarch64_unwinding aarch64_tests aarch64_rust c_checked'
+rows='tarball licences tampers sums rust_sums unwinding protected installs_for_programs units_serve checks first_answer pages rust_builds rust_packaged drawn_arrows drawn_quickly debian_packages aarch64_library aarch64_unwinding aarch64_tests aarch64_rust c_checked'
 for name in "$@"; do
     case " $rows bare_system bare_installed " in *" $name "*) ;; *) refuse ;; esac
 done
@@ -80,6 +80,14 @@ tarball() {
     make -s -C "$top" dist BUILD="$room/none" && mv "$top/covretin-$version.tar.xz" "$top/SHA256SUMS" "$room/" || return 1
     (cd "$room" && sha256sum --quiet -c SHA256SUMS && tar -xf "covretin-$version.tar.xz") || return 1
     cp -a "$tree" "$room/again" && (cd "$room/again" && make -s dist && cmp "covretin-$version.tar.xz" "$room/covretin-$version.tar.xz")
+}
+
+# Each file has a licence, in the words of SPDX, and so it stands in the list of all.
+licences() {
+    cp -a "$tree" "$room/licensed" && cd "$room/licensed" && reuse lint >"$room/said" 2>&1 || { tail -n 20 "$room/said"; return 1; }
+    make -s sbom || return 1
+    listed=$(grep -c '^FileName: ' "covretin-$version.spdx")
+    [ "$listed" -gt 1000 ] && [ "$(grep -c '^LicenseInfoInFile: Apache-2.0$' "covretin-$version.spdx")" = "$listed" ]
 }
 
 # What is changed in the assembly of proved code is found where it is compared with what was proved.
@@ -230,6 +238,18 @@ debian_packages() {
     for name in covretin covretin-ask covretin-check covretin-tap vhost-daemon vhost-run; do
         "$room/packages/usr/bin/$name" --version >/dev/null 2>&1 || echo get_features | "$room/packages/usr/bin/$name" >/dev/null || return 1
     done
+    debian_tests
+}
+
+# The tests that Debian runs of its packages, over those that were unpacked.
+debian_tests() {
+    export PATH="$room/packages/usr/bin:$PATH" EXAMPLES="$room/packages/usr/share/doc/libcovretin-dev/examples" PKG_CONFIG_SYSROOT_DIR="$room/packages"
+    PKG_CONFIG_PATH=$(echo "$room"/packages/usr/lib/*/pkgconfig)
+    LD_LIBRARY_PATH=$(dirname "$PKG_CONFIG_PATH")
+    export PKG_CONFIG_PATH LD_LIBRARY_PATH
+    for name in library programs; do
+        "$room/debian-source/debian/tests/$name" >"$room/said" 2>&1 || { cat "$room/said"; return 1; }
+    done
 }
 
 aarch64_library() {
@@ -279,10 +299,11 @@ bare_system() {
 bare_installed() {
     ls "$room"/covretin-tools_*.deb >"$room/said" 2>&1 || debian_packages || return 1
     as --32 -o "$room/boot.o" "$tree/c/real/boot.S" && ld -m elf_i386 -Ttext 0x7c00 -e start --oformat binary -o "$room/boot" "$room/boot.o" || return 1
-    debootstrap --variant=minbase --include=qemu-system-x86 trixie "$room/trixie" >"$room/said" 2>&1 || { tail "$room/said"; return 1; }
-    cp "$room"/libcovretin0_*.deb "$room"/covretin-tools_*.deb "$room/trixie/" && cp /etc/resolv.conf "$room/trixie/etc/" || return 1
+    debootstrap --variant=minbase --include=qemu-system-x86,gcc,libc6-dev,pkg-config trixie "$room/trixie" >"$room/said" 2>&1 || { tail "$room/said"; return 1; }
+    cp "$room"/libcovretin0_*.deb "$room"/libcovretin-dev_*.deb "$room"/covretin-tools_*.deb "$room/trixie/" && cp -r "$tree/debian/tests" "$room/trixie/" && cp /etc/resolv.conf "$room/trixie/etc/" || return 1
     unshare --mount sh -c "mount -t proc proc '$room/trixie/proc' && mount --rbind /dev '$room/trixie/dev' &&
-        chroot '$room/trixie' sh -c 'apt-get update -q && apt-get install -q -y /covretin-tools_*.deb /libcovretin0_*.deb' &&
+        chroot '$room/trixie' sh -c 'apt-get update -q && apt-get install -q -y /covretin-tools_*.deb /libcovretin0_*.deb /libcovretin-dev_*.deb' &&
+        chroot '$room/trixie' /tests/library && chroot '$room/trixie' /tests/programs &&
         python3 -B '$tree/c/real/installed.py' '$room/trixie' '$room/boot'" >"$room/said" 2>&1 || { tail -n 30 "$room/said"; return 1; }
 }
 
@@ -312,6 +333,7 @@ can() {
     bare_*) has debootstrap unshare && { [ "$(id -u)" = 0 ] || { lacking=root; return 1; }; } &&
         { [ "$1" = bare_system ] || { can debian_packages && has cpio mke2fs && has_packages linux-image-amd64 busybox-static; }; } ;;
     c_checked) has "${CBMC:-cbmc}" ;;
+    licences) has reuse ;;
     aarch64_unwinding) has aarch64-linux-gnu-gcc qemu-aarch64 && describes_frames aarch64 ;;
     aarch64_library | aarch64_tests) has aarch64-linux-gnu-gcc qemu-aarch64 ;;
     aarch64_rust) has aarch64-linux-gnu-gcc qemu-aarch64 && has_packages rustc cargo libstd-rust-dev:arm64 && has_crates ;;
