@@ -16,6 +16,7 @@
   headers   the headers for C have the code's constants, features and stack
   requests  the tables of requests are those of protocol/requests.toml
   places    docs/ARCHITECTURE.md says in how many files a request stands
+  words     public names have the field's words, by protocol/words.tsv
   options   man pages have the options that each program's help shows, and pages use no other
   refusals  docs/DIFFERENCES.md says how each request is refused
   sessions  tests/sessions is complete, and what it names is there
@@ -41,6 +42,7 @@ import pages  # noqa: E402
 import requests  # noqa: E402
 import tables  # noqa: E402
 import theorems  # noqa: E402
+import vocabulary  # noqa: E402
 
 
 def unformatted():
@@ -65,6 +67,7 @@ CHECKS = {
     "headers": interfaces.headers,
     "requests": requests.requests,
     "places": tables.places,
+    "words": vocabulary.words,
     "options": options.options,
     "refusals": tables.refusals,
     "sessions": tables.sessions,
