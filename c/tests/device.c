@@ -2229,7 +2229,7 @@ static uint64_t acknowledged(uint32_t request, int fd)
     union {
         struct cmsghdr head;
         char room[CMSG_SPACE(sizeof(int))];
-    } with = {.head = {CMSG_LEN(sizeof fd), SOL_SOCKET, SCM_RIGHTS}};
+    } with = {.head = {.cmsg_len = CMSG_LEN(sizeof fd), .cmsg_level = SOL_SOCKET, .cmsg_type = SCM_RIGHTS}};
     struct iovec whole = {&sent, 13};
     struct msghdr message = {.msg_iov = &whole, .msg_iovlen = 1};
     memcpy(CMSG_DATA(&with.head), &fd, sizeof fd);
