@@ -1,5 +1,5 @@
 /* SPDX-License-Identifier: Apache-2.0 */
-/* bench [--limits | --at SOCKET | --try | --one FIGURE COUNT]: measures what messages cost. docs/PERFORMANCE.md says what the names
+/* bench [--limits | --at SOCKET | --try | --bytes | --one FIGURE COUNT]: measures what messages cost. docs/PERFORMANCE.md says what the names
  * mean.
  *
  * Status 0; 1 after wrong arguments; 2 where memory, a socket, the clock or the output failed. */
@@ -42,6 +42,8 @@ static const struct figure figures[] = {
     {"service_queued", 20000, service_queued, "socket_recvmsg_apart"},
     {"socket_trip", 20000, socket_trip, NULL},
     {"service_trip", 20000, service_trip, "socket_trip"},
+    {"service_session", 5000, service_session, NULL},
+    {"connection_session", 5000, connection_session, NULL},
     {"threads_trip", 5000, threads_trip, NULL},
     {"threads_get_features", 5000, threads_get_features, "threads_trip"},
     {"threads_acknowledged", 5000, threads_acknowledged, "threads_trip"},
@@ -127,7 +129,7 @@ static void show_good(int figure, long count)
 
 static int usage(void)
 {
-    fprintf(stderr, "usage: bench [--limits | --at SOCKET | --try | --one FIGURE COUNT]\n");
+    fprintf(stderr, "usage: bench [--limits | --at SOCKET | --try | --bytes | --one FIGURE COUNT]\n");
     return 2;
 }
 
@@ -153,7 +155,9 @@ int main(int argc, char **argv)
     else if (argc == 3 && strcmp(word, "--at") == 0) {
         at_path = argv[2];
         measure(figures_at, FIGURES_AT);
-    } else if (argc == 2 && strcmp(word, "--try") == 0)
+    } else if (argc == 2 && strcmp(word, "--bytes") == 0)
+        show_bytes();
+    else if (argc == 2 && strcmp(word, "--try") == 0)
         for (int i = 0; i < FIGURES; i++)
             show_good(i, TRIED);
     else if (argc != 4 || strcmp(word, "--one") != 0 || !one(argv[2], argv[3]))

@@ -23,6 +23,9 @@ double now(void);
 /* How many messages wait at a time, and how many bytes of the configuration space are read. */
 enum { QUEUED = 100, CONFIG = 256 };
 
+/* Of how many sessions the memory is counted. */
+enum { SESSIONS = 100 };
+
 /* What both sides agree on: features of virtio, and the protocol features CONFIG and REPLY_ACK. */
 enum { FEATURES = 0x40000003, PROTOCOL_FEATURES = 0x208 };
 
@@ -44,7 +47,10 @@ work both_get_features, both_get_config_256, both_set_mem_table_8;
 work queue_chain_8, queue_chain_8_apart;
 
 /* Those over sockets. */
-work service_queued, service_trip, threads_get_features, threads_acknowledged, threads_get_config_256;
+work service_queued, service_trip, service_session, connection_session, threads_get_features, threads_acknowledged, threads_get_config_256;
+
+/* Shows the bytes of memory that a frontend and a backend have asked for. */
+void show_bytes(void);
 
 /* What the same bytes cost alone. */
 work copy_message, socket_read, socket_read_apart, socket_recvmsg, socket_recvmsg_apart, socket_trip, threads_trip;

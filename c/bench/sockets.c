@@ -8,7 +8,9 @@
 #include "covretin_backend_socket.h"
 #include "covretin_socket.h"
 
+#include <malloc.h>
 #include <pthread.h>
+#include <stdio.h>
 #include <sys/socket.h>
 #include <unistd.h>
 
@@ -29,6 +31,17 @@ static bool serve(void)
 {
     uint32_t call = 0;
     return !covretin_next_call(&service, &call, -1) && !accept_call(&service.backend, call);
+}
+
+static bool exchange(enum covretin_error asked)
+{
+    return !asked && !covretin_exchange(&frontend, -1);
+}
+
+static bool ask_features(void)
+{
+    uint64_t number;
+    return exchange(covretin_ask_get_features(&frontend.session)) && !covretin_answer_number(&frontend.session, &number);
 }
 
 /* -- One thread -- */
@@ -75,6 +88,41 @@ struct taken service_trip(long count)
     return close_pair(end, taken);
 }
 
+/* Sessions of one call, from their sockets to their end, whose other end is played here: a backend's, and a frontend's, whose reply is there
+ * before it asks. */
+struct taken service_session(long count)
+{
+    struct taken taken = {0, 0};
+    double begun = now();
+    for (long i = 0; i < count; i++) {
+        uint8_t reply[sizeof features_reply];
+        int end = serve_pair();
+        if (write(end, get_features, sizeof get_features) != sizeof get_features)
+            fail("write");
+        taken.good += serve() && !covretin_send_reply(&service, -1) && read(end, reply, sizeof reply) == sizeof reply;
+        close_pair(end, taken);
+    }
+    taken.nanoseconds = now() - begun;
+    return taken;
+}
+
+struct taken connection_session(long count)
+{
+    struct taken taken = {0, 0};
+    double begun = now();
+    for (long i = 0; i < count; i++) {
+        int ends[2];
+        if (socketpair(AF_UNIX, SOCK_STREAM | SOCK_CLOEXEC, 0, ends) || covretin_connect_fd(&frontend, ends[1], 2) ||
+            write(ends[0], features_reply, sizeof features_reply) != sizeof features_reply)
+            fail("a pair of sockets");
+        taken.good += ask_features();
+        covretin_disconnect(&frontend);
+        close(ends[0]);
+    }
+    taken.nanoseconds = now() - begun;
+    return taken;
+}
+
 /* -- Two threads -- */
 
 /* Serves until the frontend is gone. */
@@ -85,17 +133,6 @@ static void *serve_all(void *unused)
         serve();
     covretin_hang_up(&service);
     return NULL;
-}
-
-static bool exchange(enum covretin_error asked)
-{
-    return !asked && !covretin_exchange(&frontend, -1);
-}
-
-static bool ask_features(void)
-{
-    uint64_t number;
-    return exchange(covretin_ask_get_features(&frontend.session)) && !covretin_answer_number(&frontend.session, &number);
 }
 
 static bool ask_vring_num(void)
@@ -146,4 +183,38 @@ struct taken threads_acknowledged(long count)
 struct taken threads_get_config_256(long count)
 {
     return talk(ask_config, 0, count);
+}
+
+/* -- Memory -- */
+
+/* Bytes that were asked for and not given back. */
+static size_t asked_for(void)
+{
+    struct mallinfo2 it = mallinfo2();
+    return it.uordblks + it.hblkhd;
+}
+
+/* The bytes that so many frontends have asked for, each, and so many backends. */
+void show_bytes(void)
+{
+    static covretin_connection frontends[SESSIONS];
+    static covretin_service services[SESSIONS];
+    size_t begun, between;
+    int ends[SESSIONS][2];
+    for (int i = 0; i < SESSIONS; i++)
+        if (socketpair(AF_UNIX, SOCK_STREAM | SOCK_CLOEXEC, 0, ends[i]))
+            fail("a pair of sockets");
+    begun = asked_for();
+    for (int i = 0; i < SESSIONS; i++)
+        if (covretin_connect_fd(&frontends[i], ends[i][0], 1))
+            fail("a session");
+    between = asked_for();
+    for (int i = 0; i < SESSIONS; i++)
+        if (covretin_serve_fd(&services[i], ends[i][1]))
+            fail("a session");
+    printf("frontend_bytes %zu\nbackend_bytes %zu\n", (between - begun) / SESSIONS, (asked_for() - between) / SESSIONS);
+    for (int i = 0; i < SESSIONS; i++) {
+        covretin_disconnect(&frontends[i]);
+        covretin_hang_up(&services[i]);
+    }
 }

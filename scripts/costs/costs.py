@@ -44,6 +44,8 @@ FIGURES = {
     "queue_chain_8_apart": 1000,
     "service_queued": 1000,
     "service_trip": 200,
+    "service_session": 200,
+    "connection_session": 200,
     "threads_get_features": 200,
     "threads_acknowledged": 200,
     "threads_get_config_256": 200,

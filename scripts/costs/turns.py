@@ -9,7 +9,7 @@
 
 BENCH is the benchmark of c/bench, BESIDE the program of rust/fuzz/src/bin/beside.rs. A line of vhost is a figure, how many times the crate's the time
 in Rust is, and in C: all are run on the processors that this may use, and the middle is shown. The last two are the bytes of memory that a frontend
-and a backend in Rust have asked for, and those of the crate.
+and a backend have asked for in Rust and in C, and those of the crate.
 
 LOAD is the compiled c/real/load.c, IMAGE a large file; each COMMAND begins a disk, with {socket} and {image} in it. Each disk is pinned to one
 processor, the load to another. For each way: pages at random places from the page cache, one at a time, or 32; and 32 where the page cache has none. A
@@ -73,7 +73,11 @@ def against(bench, program):
 
 # -- The crate vhost --
 
-FIGURES = "get_features", "acknowledged", "get_config_256"
+# Each, and what the program of c/bench calls it.
+FIGURES = {
+    "get_features": "threads_get_features", "acknowledged": "threads_acknowledged", "get_config_256": "threads_get_config_256",
+    "backend_session": "service_session", "frontend_session": "connection_session",
+}
 CALLS = "10000"
 
 
@@ -91,11 +95,12 @@ def vhost(bench, beside, turns=7):
             if name in FIGURES:
                 rust.setdefault(name, []).append(float(found[2]))
         memory = [line for line in lines if line[0] not in FIGURES]
-    for name in FIGURES:
-        pairs = [(seconds(bench, "--one", f"threads_{name}", CALLS), seconds(beside, "--one", name, CALLS)) for _ in range(3 * turns)]
+    for name, in_c in FIGURES.items():
+        pairs = [(seconds(bench, "--one", in_c, CALLS), seconds(beside, "--one", name, CALLS)) for _ in range(3 * turns)]
         print(name, f"{statistics.median(rust[name]):.2f}", f"{statistics.median(c / crate for c, crate in pairs):.2f}")
-    for line in memory:
-        print(*line)
+    bytes_in_c = dict(line.split() for line in output(bench, "--bytes").splitlines())
+    for name, here, there in memory:
+        print(name, here, bytes_in_c[name], there)
 
 
 # -- Disks --

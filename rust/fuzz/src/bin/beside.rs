@@ -7,6 +7,7 @@
 //! A frontend and a backend in two threads, over a pair of sockets. Both are measured in short turns, one after the other; the middle is shown.
 //! The last two lines are the bytes of memory that a frontend and a backend have asked for.
 use std::env;
+use std::io::{Read, Write};
 use std::os::unix::net::UnixStream;
 use std::process::exit;
 use std::sync::{Arc, Mutex};
@@ -19,7 +20,10 @@ use covretin_fuzz::{memory_file, ours, upstream};
 const CALLS: usize = 200;
 /// Of how many sessions the memory is counted.
 const SESSIONS: usize = 100;
-const FIGURES: [&str; 3] = ["get_features", "acknowledged", "get_config_256"];
+const FIGURES: [&str; 5] = ["get_features", "acknowledged", "get_config_256", "backend_session", "frontend_session"];
+/// A GET_FEATURES, and its reply.
+const ASKS: [u8; 12] = [1, 0, 0, 0, 1, 0, 0, 0, 0, 0, 0, 0];
+const REPLY: [u8; 20] = [1, 0, 0, 0, 5, 0, 0, 0, 8, 0, 0, 0, 3, 0, 0, 0x40, 0, 0, 0, 0];
 
 /// Bytes that were asked for and not given back.
 fn asked_for() -> usize {
@@ -51,8 +55,27 @@ macro_rules! sides {
                 frontend
             }
 
-            fn call(frontend: &mut Frontend, figure: &str) {
+            /// A backend's session of one request, from its socket to its end.
+            fn backend_session(device: Arc<Mutex<Device>>) {
+                let (mut mine, other) = UnixStream::pair().unwrap();
+                let mut handler = handler(other, device);
+                mine.write_all(&ASKS).unwrap();
+                handler.handle_request().unwrap();
+                mine.read_exact(&mut [0; 20]).unwrap();
+            }
+
+            /// A frontend's, whose reply is there before it asks.
+            fn frontend_session() {
+                let (mine, mut other) = UnixStream::pair().unwrap();
+                let frontend = Frontend::from_stream(mine, 2);
+                other.write_all(&REPLY).unwrap();
+                frontend.get_features().unwrap();
+            }
+
+            fn call(frontend: &mut Frontend, device: &Arc<Mutex<Device>>, figure: &str) {
                 match figure {
+                    "backend_session" => backend_session(device.clone()),
+                    "frontend_session" => frontend_session(),
                     "get_features" => drop(frontend.get_features().unwrap()),
                     "acknowledged" => frontend.set_vring_num(0, 128).unwrap(),
                     _ => drop(frontend.get_config(0, 256, VhostUserConfigFlags::empty(), &[0; 256]).unwrap()),
@@ -61,9 +84,10 @@ macro_rules! sides {
 
             /// So many calls: the nanoseconds of one.
             pub fn turn(frontend: &mut Frontend, figure: &str, count: usize) -> f64 {
+                let device = device();
                 let begun = Instant::now();
                 for _ in 0..count {
-                    call(frontend, figure);
+                    call(frontend, &device, figure);
                 }
                 begun.elapsed().as_nanos() as f64 / count as f64
             }
