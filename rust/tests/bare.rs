@@ -62,6 +62,66 @@ fn a_chain_is_followed_through_both_tables() {
     assert_eq!(Err(Error::Unaligned), queue.move_to(0x8001, 0x9000, 0xa000));
 }
 
+/// Takes a chain, whose descriptors are these, by one call: the places that were read, and the parts.
+fn taken(queue: &mut SplitQueue, head: u16, descriptors: &[Described]) -> (Vec<Read>, Result<Vec<u64>, Error>) {
+    let (mut read, mut parts, mut left) = (vec![], vec![], descriptors.iter());
+    let outcome = queue.take(
+        head,
+        |table, index| {
+            read.push((table, index));
+            left.next().map(|&(addr, len, flags, next)| Descriptor { addr, len, flags, next })
+        },
+        |part| parts.push(part.addr),
+    );
+    (read, outcome.map(|()| parts))
+}
+
+#[test]
+fn chains_are_taken_by_one_call() {
+    let mut queue = started();
+    assert_eq!(Err(Error::NothingAvailable), queue.head_addrs(4));
+    queue.available(9).unwrap();
+    // (two up to the end of the ring)
+    assert_eq!((Ok(0x2008..0x200c), Ok(0x2008..0x200a)), (queue.head_addrs(4), queue.head_addrs(1)));
+    let (own, other) = (Table { addr: 0x1000, len: 64 }, Table { addr: 0x5000, len: 32 });
+    let chain = [(7, 1, NEXT, 1), (other.addr, 32, INDIRECT, 0), (8, 1, NEXT | WRITE, 1), (9, 1, WRITE, 0)];
+    let read = vec![(own, 3), (own, 1), (other, 0), (other, 1)];
+    assert_eq!((read, Ok(vec![7, 8, 9])), taken(&mut queue, 3, &chain));
+    assert_eq!((vec![(own, 0)], Ok(vec![5])), taken(&mut queue, 0, &[(5, 1, 0, 0)]));
+    assert_eq!(Ok(0x2004..0x2006), queue.head_addrs(4));
+    queue.move_to(0x8000, 0x9000, 0xa000).unwrap();
+    assert_eq!(Err(Error::ChainTooLong), taken(&mut queue, 1, &[(5, 1, NEXT, 0); 2000]).1);
+    // What was taken is the device's, and its last one, too, which is no request.
+    assert!([3, 0, 1].iter().all(|head| queue.add_used(*head, 0).is_ok()));
+}
+
+/// A head that is refused is not the device's, and nothing is read for one that is in no table; a chain that is refused is.
+#[test]
+fn what_is_taken_of_a_broken_ring() {
+    let started = |idx| {
+        let mut queue = started();
+        queue.available(idx).unwrap();
+        queue
+    };
+    let mut queue = started(8);
+    assert_eq!((vec![], Err(Error::NotInTable)), taken(&mut queue, 4, &[(5, 1, 0, 0)]));
+    assert_eq!(Err(Error::NeedsReset), taken(&mut queue, 1, &[(5, 1, 0, 0)]).1);
+    assert_eq!(Err(Error::NotHandedOut), queue.add_used(1, 0));
+    let mut queue = started(8);
+    taken(&mut queue, 2, &[(5, 1, 0, 0)]).1.unwrap();
+    assert_eq!(Err(Error::HeadInUse), taken(&mut queue, 2, &[(5, 1, 0, 0)]).1);
+    queue.add_used(2, 0).unwrap();
+    let mut queue = started(8);
+    assert_eq!(Err(Error::EmptyDescriptor), taken(&mut queue, 2, &[(5, 0, 0, 0)]).1);
+    queue.add_used(2, 0).unwrap();
+    // (its descriptors can't be read)
+    let mut queue = started(8);
+    assert_eq!(Err(Error::NotInGuest), taken(&mut queue, 2, &[]).1);
+    queue.add_used(2, 0).unwrap();
+    assert_eq!(Err(Error::NothingAvailable), taken(&mut started(6), 2, &[(5, 1, 0, 0)]).1);
+    assert_eq!(Err(Error::NotStarted), taken(&mut SplitQueue::new().unwrap(), 2, &[(5, 1, 0, 0)]).1);
+}
+
 #[test]
 fn heads_are_given_back_and_adopted() {
     let mut queue = started();

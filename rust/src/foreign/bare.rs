@@ -4,7 +4,7 @@
 use std::fmt;
 use std::ptr::null_mut;
 
-use super::descriptors::{Descriptor as Copied, Range, Segment, Walked, COPIES, INDIRECT, NEXT};
+use super::descriptors::{Descriptor as Copied, Range, Room, Walked, COPIES, INDIRECT, NEXT};
 use super::queue::*;
 use crate::queue::bare::{Descriptor, Rings, Table, Used};
 use crate::queue::Error;
@@ -13,6 +13,8 @@ use crate::queue::Error;
 /// call takes what was read: see [the module](crate::queue::bare).
 pub struct SplitQueue {
     raw: Raw,
+    /// The queue's own table; of one that was not started it has no bytes.
+    own: Table,
     room: Box<Room>,
 }
 
@@ -20,12 +22,6 @@ impl fmt::Debug for SplitQueue {
     fn fmt(&self, f: &mut fmt::Formatter<'_>) -> fmt::Result {
         f.debug_struct("SplitQueue").finish_non_exhaustive()
     }
-}
-
-/// Descriptors that were read, and the segments that the core makes of them.
-struct Room {
-    copies: [Copied; COPIES],
-    segments: [Segment; COPIES],
 }
 
 // SAFETY: the header says that a queue has no global state, and asks only that calls with the same one do not overlap; all of them take
@@ -40,8 +36,8 @@ unsafe impl Sync for SplitQueue {}
 impl SplitQueue {
     /// A queue that is not started. OutOfMemory.
     pub fn new() -> Result<SplitQueue, Error> {
-        let room = Box::new(Room { copies: [Copied::default(); COPIES], segments: [Segment::default(); COPIES] });
-        let mut queue = SplitQueue { raw: Raw { opaque: null_mut() }, room };
+        let own = Table { addr: 0, len: 0 };
+        let mut queue = SplitQueue { raw: Raw { opaque: null_mut() }, own, room: Room::new() };
         // SAFETY: as above; it is not open yet.
         outcome(unsafe { covretin_queue_open(&mut queue.raw) })?;
         let all = Region { guest_addr: 0, size: u64::MAX, user_addr: 0, host_addr: 0 };
@@ -64,13 +60,17 @@ impl SplitQueue {
             indirect_desc: rings.indirect_desc,
         };
         // SAFETY: as above.
-        outcome(unsafe { covretin_queue_start_split(&mut self.raw, &ring) })
+        outcome(unsafe { covretin_queue_start_split(&mut self.raw, &ring) })?;
+        self.own = Table { addr: rings.desc_table, len: 16 * u64::from(rings.size) };
+        Ok(())
     }
 
     /// Its rings lie elsewhere. What the device has stays the device's. Unaligned, NotInGuest, NotStarted: they lie where they lay.
     pub fn move_to(&mut self, desc_table: u64, avail_ring: u64, used_ring: u64) -> Result<(), Error> {
         // SAFETY: as above.
-        outcome(unsafe { covretin_queue_move_split(&mut self.raw, desc_table, avail_ring, used_ring) })
+        outcome(unsafe { covretin_queue_move_split(&mut self.raw, desc_table, avail_ring, used_ring) })?;
+        self.own.addr = desc_table;
+        Ok(())
     }
 
     /// Whether the driver broke a rule since the start. Then nothing more is taken, and what the device has may still be used.
@@ -96,6 +96,16 @@ impl SplitQueue {
         // SAFETY: as above.
         outcome(unsafe { covretin_queue_head_place(&mut self.raw, &mut place) })?;
         Ok(place.addr)
+    }
+
+    /// Where that entry and those behind it are to be read, two bytes each: `most` at most, and all of them are available. Their chains are taken
+    /// in this order, and until the queue is started, moved or given a head back no place has to be asked for. NothingAvailable, NotStarted.
+    #[inline]
+    pub fn head_addrs(&mut self, most: u16) -> Result<std::ops::Range<u64>, Error> {
+        let mut place = Range::default();
+        // SAFETY: as above.
+        outcome(unsafe { covretin_queue_heads_place(&mut self.raw, most.into(), &mut place) })?;
+        Ok(place.addr..place.addr + place.len)
     }
 
     /// It was read as this: the chain of this head is the device's, and is followed. NotInTable, HeadInUse, NeedsReset; NothingAvailable,
@@ -126,17 +136,50 @@ impl SplitQueue {
         outcome(unsafe { covretin_queue_resubmit(&mut self.raw, head) })
     }
 
+    /// The same, and [`follow`](Self::follow), by one call. NotInTable of a head beyond the table, HeadInUse, NeedsReset, NothingAvailable and
+    /// NotStarted: no chain was taken. Others: it was, and is no request.
+    #[inline]
+    pub fn take(
+        &mut self,
+        head: u16,
+        mut read: impl FnMut(Table, u16) -> Option<Descriptor>,
+        mut each: impl FnMut(&Descriptor),
+    ) -> Result<(), Error> {
+        let mut walked = Walked::default();
+        let copied = self.copy(self.own, head, &mut read);
+        let (room, count) = (&mut *self.room, copied.unwrap_or(0));
+        let given = &room.copies[..count];
+        // SAFETY: as above; the lengths are those of the arrays, of which neither is the other.
+        outcome(unsafe {
+            covretin_queue_take(&mut self.raw, head, given.as_ptr(), count, room.segments.as_mut_ptr(), COPIES, &mut walked)
+        })?;
+        copied.ok_or(Error::NotInGuest)?;
+        tell(&given[..walked.taken], &mut each);
+        self.go_on(walked, read, each)
+    }
+
     /// Follows the chain to its end. `read` reads the descriptor at this index of a table, whose 16 bytes lie in it, once; `each` is told every
     /// part of the request, in order. NotInGuest, also where `read` has none, EmptyDescriptor, NotInTable, ChainTooLong,
     /// ReadableAfterWritable, UnexpectedIndirect, IndirectGoesOn, InvalidIndirectLength, NeedsReset: what was told is no request.
     pub fn follow(
         &mut self,
-        mut read: impl FnMut(Table, u16) -> Option<Descriptor>,
-        mut each: impl FnMut(&Descriptor),
+        read: impl FnMut(Table, u16) -> Option<Descriptor>,
+        each: impl FnMut(&Descriptor),
     ) -> Result<(), Error> {
         let mut walked = Walked::default();
         // SAFETY: as above.
         outcome(unsafe { covretin_queue_table(&mut self.raw, &mut walked.table) })?;
+        self.go_on(walked, read, each)
+    }
+
+    /// Follows it from where it goes on.
+    #[inline]
+    fn go_on(
+        &mut self,
+        mut walked: Walked,
+        mut read: impl FnMut(Table, u16) -> Option<Descriptor>,
+        mut each: impl FnMut(&Descriptor),
+    ) -> Result<(), Error> {
         while walked.table.goes_on {
             let table = Table { addr: walked.table.range.addr, len: walked.table.range.len };
             let count = self.copy(table, walked.table.next, &mut read).ok_or(Error::NotInGuest)?;
@@ -146,16 +189,13 @@ impl SplitQueue {
             outcome(unsafe {
                 covretin_queue_walk(&mut self.raw, given.as_ptr(), count, room.segments.as_mut_ptr(), COPIES, &mut walked)
             })?;
-            // (a part lies in the one region, so each that was taken is a segment, or names a table)
-            for it in given[..walked.taken].iter().filter(|it| it.third & INDIRECT == 0) {
-                each(&Descriptor { addr: it.addr, len: it.len, flags: it.third, next: it.fourth });
-            }
+            tell(&given[..walked.taken], &mut each);
         }
         Ok(())
     }
 
     /// Copies descriptors by their links, as many as there is room for: how many. None: one could not be read.
-    #[inline]
+    #[inline(always)]
     fn copy(&mut self, table: Table, first: u16, read: &mut impl FnMut(Table, u16) -> Option<Descriptor>) -> Option<usize> {
         let (mut next, mut count) = (first, 0);
         while count < COPIES && u64::from(next) < table.len / 16 {
@@ -205,6 +245,14 @@ impl SplitQueue {
         // SAFETY: as above.
         outcome(unsafe { covretin_queue_set_notification(&mut self.raw, enable, &mut write) })?;
         Ok(Some((write.place.addr, write.value as u16)).filter(|_| write.place.len != 0))
+    }
+}
+
+/// Tells each part of these descriptors, which were taken. (a part lies in the one region, so each is a segment, or names a table)
+#[inline]
+fn tell(taken: &[Copied], each: &mut impl FnMut(&Descriptor)) {
+    for it in taken.iter().filter(|it| it.third & INDIRECT == 0) {
+        each(&Descriptor { addr: it.addr, len: it.len, flags: it.third, next: it.fourth });
     }
 }
 

@@ -66,6 +66,18 @@ pub(super) struct Walked {
     pub(super) table: Table,
 }
 
+/// Descriptors that were read, and the segments that the core makes of them.
+pub(super) struct Room {
+    pub(super) copies: [Descriptor; COPIES],
+    pub(super) segments: [Segment; COPIES],
+}
+
+impl Room {
+    pub(super) fn new() -> Box<Room> {
+        Box::new(Room { copies: [Descriptor::default(); COPIES], segments: [Segment::default(); COPIES] })
+    }
+}
+
 /// Copies descriptors from where a chain goes on, as many as there is room for: those of a split queue by their links; those of a packed one
 /// in a row, round the ring's end, or all that an indirect table has. How many.
 ///

@@ -7,7 +7,7 @@ use std::ptr::null_mut;
 use std::sync::atomic::{fence, AtomicU16, Ordering};
 use std::sync::Arc;
 
-use super::descriptors::{copy, load_descriptor, Descriptor, Range, Segment, Table, Walked, COPIES, INDIRECT};
+use super::descriptors::{copy, load_descriptor, Descriptor, Range, Room, Segment, Table, Walked, COPIES, INDIRECT};
 use super::guard::take_faults;
 use super::guest::{Region as GuestRegion, Regions, Slices};
 use crate::queue::Error;
@@ -57,7 +57,7 @@ pub(crate) struct PackedRing {
 
 /// `covretin_used`.
 #[repr(C)]
-#[derive(Default)]
+#[derive(Clone, Copy, Default)]
 pub(super) struct RawUsed {
     pub(super) elem: Range,
     pub(super) elem_value: u64,
@@ -133,6 +133,7 @@ extern "C" {
     fn covretin_queue_available_place(queue: &mut Raw, place: &mut Range) -> u32;
     pub(super) fn covretin_queue_available(queue: &mut Raw, value: u16, count: &mut u16) -> u32;
     pub(super) fn covretin_queue_head_place(queue: &mut Raw, place: &mut Range) -> u32;
+    pub(super) fn covretin_queue_heads_place(queue: &mut Raw, most: usize, place: &mut Range) -> u32;
     pub(super) fn covretin_queue_pop(queue: &mut Raw, head: u16) -> u32;
     pub(super) fn covretin_queue_resubmit(queue: &mut Raw, head: u16) -> u32;
     pub(super) fn covretin_queue_give_back(queue: &mut Raw, head: u16) -> u32;
@@ -149,7 +150,26 @@ extern "C" {
         segments_len: usize,
         walked: &mut Walked,
     ) -> u32;
+    pub(super) fn covretin_queue_take(
+        queue: &mut Raw,
+        value: u16,
+        copies: *const Descriptor,
+        copies_len: usize,
+        segments: *mut Segment,
+        segments_len: usize,
+        walked: &mut Walked,
+    ) -> u32;
     pub(super) fn covretin_queue_add_used(queue: &mut Raw, id: u16, len: u32, used: &mut RawUsed) -> u32;
+    fn covretin_queue_add_used_many(
+        queue: &mut Raw,
+        ids: *const u16,
+        ids_len: usize,
+        lens: *const u32,
+        lens_len: usize,
+        used: *mut RawUsed,
+        used_len: usize,
+        done: &mut usize,
+    ) -> u32;
     pub(super) fn covretin_queue_notification_place(queue: &mut Raw, place: &mut Range) -> u32;
     pub(super) fn covretin_queue_needs_notification(queue: &mut Raw, value: u16, flags: u16, needed: &mut bool) -> u32;
     pub(super) fn covretin_queue_set_notification(queue: &mut Raw, enable: bool, write: &mut EventWrite) -> u32;
@@ -261,6 +281,32 @@ pub(crate) struct CoreQueue {
     rings: Arc<Regions>,
     /// The place in `rings` that was looked at last for what is available, and what was there.
     looked_at: Option<(u64, u16)>,
+    /// Where the descriptor table is mapped, since a chain was followed there.
+    table: Option<Range>,
+    room: Box<Room>,
+    many: Box<Many>,
+}
+
+/// Chains that are given back at once, and what is to be written for them.
+struct Many {
+    ids: [u16; GIVEN_BACK],
+    lens: [u32; GIVEN_BACK],
+    used: [RawUsed; GIVEN_BACK],
+}
+
+/// How many chains are given back at once.
+const GIVEN_BACK: usize = 32;
+
+impl Many {
+    fn new() -> Box<Many> {
+        Box::new(Many { ids: [0; GIVEN_BACK], lens: [0; GIVEN_BACK], used: [RawUsed::default(); GIVEN_BACK] })
+    }
+
+    /// Has the next ones of these: how many.
+    fn fill(&mut self, chains: &mut impl Iterator<Item = (u16, u32)>) -> usize {
+        let places = self.ids.iter_mut().zip(&mut self.lens);
+        places.zip(chains).map(|((id, len), chain)| (*id, *len) = chain).count()
+    }
 }
 
 // SAFETY: the header says that a queue has no global state, and asks only that calls with the same one do not overlap; all of them take
@@ -283,7 +329,8 @@ impl CoreQueue {
         // SAFETY: as above; it is not open yet.
         outcome(unsafe { covretin_queue_open(&mut raw) })?;
         let none = Arc::new(Regions::default());
-        Ok(CoreQueue { raw, seen: none.clone(), rings: none, looked_at: None })
+        let (room, many) = (Room::new(), Many::new());
+        Ok(CoreQueue { raw, seen: none.clone(), rings: none, looked_at: None, table: None, room, many })
     }
 
     /// It sees these regions from now on; rings stay where they are mapped.
@@ -352,7 +399,7 @@ impl CoreQueue {
 
     /// The rings are mapped in these from now on.
     fn map_rings(&mut self, rings: Arc<Regions>) {
-        (self.rings, self.looked_at) = (rings, None);
+        (self.rings, self.looked_at, self.table) = (rings, None, None);
     }
 
     pub(crate) fn start_split(&mut self, ring: &SplitRing) -> Result<(), Error> {
@@ -446,37 +493,96 @@ impl CoreQueue {
         outcome(unsafe { covretin_queue_resubmit_packed(&mut self.raw) })
     }
 
+    /// Takes the next head of a split queue, and follows its chain to its end. Errors are those of `pop` and of `walk`.
+    pub(crate) fn take(&mut self, most: usize) -> Result<(u16, Chain), Error> {
+        let range = match self.table {
+            Some(range) => range,
+            None => {
+                let head = self.pop()?;
+                return Ok((head, self.walk(most, false)?));
+            }
+        };
+        let mut place = Range::default();
+        // SAFETY: as above; the place is of `rings`.
+        outcome(unsafe { covretin_queue_head_place(&mut self.raw, &mut place) })?;
+        // SAFETY: as above.
+        let head = unsafe { load(place.addr) };
+        let (table, mut chain) = (Table { range, next: head, goes_on: true }, self.new_chain());
+        // SAFETY: as above; the table is of `rings`, since they were mapped.
+        let count = unsafe { copy(&table, false, false, &mut self.room.copies) };
+        let mut walked = Walked::default();
+        self.go_on(Some(head), count, &mut walked, &mut chain, most)?;
+        let is_indirect = count != 0 && self.room.copies[count - 1].third & INDIRECT != 0;
+        self.follow_copies(walked, is_indirect, false, &mut chain, most)?;
+        Ok((head, chain))
+    }
+
+    fn new_chain(&self) -> Chain {
+        Chain { slices: Slices::of(self.seen.clone()), readable: 0, written: Vec::new(), id: 0 }
+    }
+
     /// Follows a chain to its end, of a packed queue or of a split one, by copies of its descriptors. ChainTooLong: it has more than so many
     /// parts.
     pub(crate) fn walk(&mut self, most: usize, is_packed: bool) -> Result<Chain, Error> {
-        let mut chain = Chain { slices: Slices::of(self.seen.clone()), readable: 0, written: Vec::new(), id: 0 };
-        let mut copies = [Descriptor::default(); COPIES];
-        let (mut walked, mut is_indirect) = (Walked::default(), false);
+        let (mut chain, mut walked) = (self.new_chain(), Walked::default());
         // SAFETY: as above.
         outcome(unsafe { covretin_queue_table(&mut self.raw, &mut walked.table) })?;
+        self.table = Some(walked.table.range).filter(|_| !is_packed);
+        self.follow_copies(walked, false, is_packed, &mut chain, most)?;
+        Ok(chain)
+    }
+
+    /// Follows it from where it goes on, which may be an indirect table.
+    fn follow_copies(
+        &mut self,
+        mut walked: Walked,
+        mut is_indirect: bool,
+        is_packed: bool,
+        chain: &mut Chain,
+        most: usize,
+    ) -> Result<(), Error> {
         while walked.table.goes_on {
             // SAFETY: as above; the table is of `rings`, or of `seen`.
-            let count = unsafe { copy(&walked.table, is_packed, is_indirect, &mut copies) };
-            let (mut taken, last) = (0, copies[count - 1]);
-            while taken < count {
-                let mut segments = [Segment::default(); COPIES];
-                let given = &copies[taken..count];
-                // SAFETY: as above; the lengths are those of the arrays.
-                outcome(unsafe {
-                    covretin_queue_walk(&mut self.raw, given.as_ptr(), given.len(), segments.as_mut_ptr(), COPIES, &mut walked)
-                })?;
-                taken += walked.taken;
-                for segment in &segments[..walked.count] {
-                    // SAFETY: as above; the slices hold `seen`.
-                    unsafe { chain.push(segment, most) }?;
-                }
-            }
+            let count = unsafe { copy(&walked.table, is_packed, is_indirect, &mut self.room.copies) };
+            let last = self.room.copies[count - 1];
+            self.go_on(None, count, &mut walked, chain, most)?;
             if !is_indirect {
                 chain.id = last.third;
                 is_indirect = last.flags(is_packed) & INDIRECT != 0;
             }
         }
-        Ok(chain)
+        Ok(())
+    }
+
+    /// A chain goes on by so many of the copies: by the head that it has, it is taken first.
+    fn go_on(
+        &mut self,
+        mut head: Option<u16>,
+        count: usize,
+        walked: &mut Walked,
+        chain: &mut Chain,
+        most: usize,
+    ) -> Result<(), Error> {
+        let (raw, room, mut taken) = (&mut self.raw, &mut *self.room, 0);
+        loop {
+            let given = &room.copies[taken..count];
+            let (list, len, segments) = (given.as_ptr(), given.len(), room.segments.as_mut_ptr());
+            // SAFETY: as above; the lengths are those of the arrays, of which neither is the other.
+            outcome(unsafe {
+                match head.take() {
+                    Some(head) => covretin_queue_take(raw, head, list, len, segments, COPIES, walked),
+                    None => covretin_queue_walk(raw, list, len, segments, COPIES, walked),
+                }
+            })?;
+            taken += walked.taken;
+            for segment in &room.segments[..walked.count] {
+                // SAFETY: as above; the slices hold `seen`.
+                unsafe { chain.push(segment, most) }?;
+            }
+            if taken >= count {
+                return Ok(());
+            }
+        }
     }
 
     /// The same by one descriptor after the other. `in_ring` is told each that is in no indirect table, and says which one is followed.
@@ -485,7 +591,7 @@ impl CoreQueue {
         most: usize,
         mut in_ring: impl FnMut(Descriptor) -> Result<Descriptor, Error>,
     ) -> Result<Chain, Error> {
-        let mut chain = Chain { slices: Slices::of(self.seen.clone()), readable: 0, written: Vec::new(), id: 0 };
+        let mut chain = self.new_chain();
         let (mut is_indirect, mut descriptor) = (false, Descriptor::default());
         loop {
             let (mut place, mut segment, mut found) = (Range::default(), Segment::default(), false);
@@ -535,29 +641,53 @@ impl CoreQueue {
     /// flags of the first. `written` is told each place after it was written. How many there were: what the device has not is left out.
     pub(crate) fn add_all_used(
         &mut self,
-        chains: impl Iterator<Item = (u16, u32)>,
+        mut chains: impl Iterator<Item = (u16, u32)>,
         is_packed: bool,
         mut written: impl FnMut(&Self, Range),
     ) -> usize {
         let (mut held, mut count) = (None, 0);
-        for (id, len) in chains {
-            let mut used = RawUsed::default();
-            // SAFETY: as above; the places are of `rings`, which stay as they are until the end of this call.
-            if unsafe { covretin_queue_add_used(&mut self.raw, id, len, &mut used) } != 0 {
-                continue;
+        loop {
+            let (filled, mut from) = (self.many.fill(&mut chains), 0);
+            if filled == 0 {
+                break;
             }
-            // SAFETY: as above.
-            unsafe { store(used.elem, used.elem_value) };
-            written(self, used.elem);
-            count += 1;
-            let then = (used.then, used.then_value);
-            match held {
-                Some(_) if is_packed => self.show_used(then, &mut written),
-                _ => held = Some(then),
+            while from < filled {
+                let (done, is_refused) = self.add_used_many(from..filled);
+                for used in self.many.used.iter().take(done) {
+                    // SAFETY: as above; the places are of `rings`, which stay as they are until the end of this call.
+                    unsafe { store(used.elem, used.elem_value) };
+                    written(self, used.elem);
+                    match held {
+                        Some(_) if is_packed => self.show_used((used.then, used.then_value), &mut written),
+                        _ => held = Some((used.then, used.then_value)),
+                    }
+                }
+                (count, from) = (count + done, from + done + usize::from(is_refused));
             }
         }
         held.into_iter().for_each(|then| self.show_used(then, &mut written));
         count
+    }
+
+    /// Gives these back, of the ids and lengths that it has: for how many there is something to be written, and whether the next one is not the
+    /// device's.
+    fn add_used_many(&mut self, these: std::ops::Range<usize>) -> (usize, bool) {
+        let (many, mut done) = (&mut *self.many, 0);
+        let (ids, lens) = (&many.ids[these.clone()], &many.lens[these]);
+        // SAFETY: as above; the lengths are those of the lists, which are borrowed for the call, and of which none is another.
+        let error = unsafe {
+            covretin_queue_add_used_many(
+                &mut self.raw,
+                ids.as_ptr(),
+                ids.len(),
+                lens.as_ptr(),
+                lens.len(),
+                many.used.as_mut_ptr(),
+                GIVEN_BACK,
+                &mut done,
+            )
+        };
+        (done, error != 0)
     }
 
     /// Has the driver see what was used, up to this place, which is of a chain that `add_all_used` gives back.

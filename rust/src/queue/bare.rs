@@ -13,9 +13,9 @@
 //! queue.start(&Rings { desc_table: 0x1000, avail_ring: 0x2000, used_ring: 0x3000, size: 4, ..Rings::default() })?;
 //! assert_eq!(1, queue.available(1)?); // of the index, at 0x2002, one was read
 //! assert_eq!(0x2004, queue.head_addr()?);
-//! queue.pop(2)?;
 //! let (mut read, mut parts) = (vec![], vec![]);
-//! queue.follow(
+//! queue.take(
+//!     2, // which was read there
 //!     |table, index| {
 //!         read.push(table.descriptor_addr(index));
 //!         Some(Descriptor { addr: 0x5000, len: 8, flags: 2, next: 0 })

@@ -369,11 +369,15 @@ impl Queue {
         if self.is_packed {
             return self.take_packed().map(Some);
         }
-        let head = self.core.pop()?;
-        if let Some(inflight) = &mut self.inflight {
-            inflight.take(head);
-        }
-        Ok(Some(DescriptorChain::of(self.follow()?, head, false)))
+        let (head, chain) = match &mut self.inflight {
+            None => self.core.take(self.most_parts())?,
+            Some(inflight) => {
+                let head = self.core.pop()?;
+                inflight.take(head);
+                (head, self.follow()?)
+            }
+        };
+        Ok(Some(DescriptorChain::of(chain, head, false)))
     }
 
     /// A request that the device before had: of a packed queue by its first entry.

@@ -16,36 +16,49 @@ const FEW: usize = 8;
 #[derive(Clone, Debug)]
 pub(crate) struct Parts {
     few: [Descriptor; FEW],
-    len: usize,
-    many: Option<Arc<Vec<Descriptor>>>,
+    count: u16,
+    many: Option<Arc<[Descriptor]>>,
 }
 
 impl Parts {
     #[inline]
     pub(crate) fn new() -> Parts {
-        Parts { few: [Descriptor::default(); FEW], len: 0, many: None }
+        Parts { few: [Descriptor::default(); FEW], count: 0, many: None }
     }
 
+    /// Has one more. Where there are more than few, all are kept in `more`, which is empty at first, until they are [sealed](Self::seal).
     #[inline]
-    pub(crate) fn push(&mut self, it: Descriptor) {
-        match self.few.get_mut(self.len) {
-            Some(place) => *place = it,
-            None => self.push_more(it),
+    pub(crate) fn push(&mut self, it: Descriptor, more: &mut Vec<Descriptor>) {
+        match self.few.get_mut(usize::from(self.count)) {
+            Some(place) => {
+                *place = it;
+                self.count += 1;
+            }
+            None => self.push_more(it, more),
         }
-        self.len += 1;
     }
 
-    #[cold]
-    fn push_more(&mut self, it: Descriptor) {
-        let few = &self.few;
-        Arc::make_mut(self.many.get_or_insert_with(|| Arc::new(few.to_vec()))).push(it);
+    #[inline(never)]
+    fn push_more(&mut self, it: Descriptor, more: &mut Vec<Descriptor>) {
+        if more.is_empty() {
+            more.extend_from_slice(&self.few);
+        }
+        more.push(it);
+    }
+
+    /// It has all that were pushed.
+    #[inline]
+    pub(crate) fn seal(&mut self, more: &[Descriptor]) {
+        if !more.is_empty() {
+            self.many = Some(more.into());
+        }
     }
 
     #[inline]
     pub(crate) fn list(&self) -> &[Descriptor] {
         match &self.many {
             Some(many) => many,
-            None => &self.few[..self.len],
+            None => &self.few[..usize::from(self.count)],
         }
     }
 }
@@ -68,9 +81,15 @@ where
     /// The chain that `take` reads of this memory, and whose head it answers.
     #[inline]
     pub(crate) fn of(mem: M, take: impl FnOnce(&M::Target, &mut Parts) -> Option<u16>) -> Option<Self> {
-        let mut chain = DescriptorChain { mem, head_index: 0, next: 0, parts: Parts::new() };
-        chain.head_index = take(chain.mem.deref(), &mut chain.parts)?;
-        Some(chain)
+        // (it is made where the caller has it, and not moved there)
+        let mut made = Some(DescriptorChain { mem, head_index: 0, next: 0, parts: Parts::new() });
+        if let Some(chain) = &mut made {
+            match take(chain.mem.deref(), &mut chain.parts) {
+                Some(head) => chain.head_index = head,
+                None => made = None,
+            }
+        }
+        made
     }
 
     /// The index of its first descriptor, by which it is given back.

@@ -289,7 +289,9 @@ impl<'a, M: GuestMemory> MockSplitQueue<'a, M> {
         let head = u16::from_le(self.avail.ring().ref_at(0)?.load());
         let list = self.parts(head)?;
         let made = DescriptorChain::of(self.mem, |_, parts| {
-            list.iter().for_each(|it| parts.push(*it));
+            let mut more = Vec::new();
+            list.iter().for_each(|it| parts.push(*it, &mut more));
+            parts.seal(&more);
             Some(head)
         });
         made.ok_or(MockError::InvalidNextAvail)

@@ -196,7 +196,7 @@ impl Queue {
     }
 
     /// Where the chains end that are available: where nothing may be taken, where they begin.
-    #[inline]
+    #[inline(always)]
     fn end_of_available<M: GuestMemory + ?Sized>(&mut self, mem: &mut Near<'_, M>, order: Ordering) -> u16 {
         let at = self.avail_ring.checked_add(INDEX).ok_or(Error::AddressOverflow);
         let idx = match at.and_then(|at| mem.load(at.0, order)) {
@@ -206,6 +206,16 @@ impl Queue {
                 return self.next_avail;
             }
         };
+        let is_told = self.news == News::Nothing && self.ring.as_ref().is_some_and(|ring| ring.knows(idx));
+        match is_told && !self.is_broken {
+            true => idx,
+            false => self.end_told(idx),
+        }
+    }
+
+    /// The same where the index was read as this, which the proved queue does not know.
+    #[inline(never)]
+    fn end_told(&mut self, idx: u16) -> u16 {
         match self.ring().and_then(|ring| Ok(ring.available(idx)?)) {
             _ if self.is_broken => self.next_avail,
             Ok(()) => idx,
@@ -227,7 +237,7 @@ impl Queue {
             self.ring().and_then(|ring| Ok(ring.available(end)?)).map_err(|why| self.refuse(why)).ok()?;
         }
         let ring = self.ring.as_deref_mut()?;
-        let head = match ring.pop(mem) {
+        let head = match ring.head(mem) {
             Ok(head) => head,
             Err(why @ Error::GuestMemory(_)) => {
                 self.miss(why);
@@ -238,14 +248,10 @@ impl Queue {
                 return None;
             }
         };
-        self.next_avail = self.next_avail.wrapping_add(1);
-        match ring.follow(mem, parts) {
-            Ok(()) => Some(head),
-            Err(why) => {
-                self.refuse(why);
-                None
-            }
-        }
+        let taken = ring.take(mem, head, parts);
+        self.next_avail = ring.next_avail();
+        taken.map_err(|why| self.refuse(why)).ok()?;
+        Some(head)
     }
 
     fn notify<M: GuestMemory>(&mut self, mem: &M, enable: bool) -> Result<(), Error> {

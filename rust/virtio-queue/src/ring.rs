@@ -1,15 +1,15 @@
 // SPDX-License-Identifier: Apache-2.0
 //! The proved queue, told one region, all addresses: so each place that it names is an address of the guest, which is read or written here
 //! through a `GuestMemory`, whatever that is; and what of the queue is with the device.
+use std::ops::Range;
 use std::sync::atomic::Ordering;
 
 use covretin::queue::bare::{Rings, SplitQueue, Used};
 use covretin::queue::Error as Refusal;
-use vm_memory::{GuestMemory, Permissions};
+use vm_memory::GuestMemory;
 
 use crate::chain::Parts;
 use crate::desc::split::Descriptor;
-use crate::desc::WRITE;
 use crate::near::Near;
 use crate::Error;
 
@@ -19,6 +19,10 @@ pub(crate) struct Ring {
     rings: Rings,
     /// The index of the available ring that the queue was told last.
     idx: Option<u16>,
+    /// Where heads are to be read next, as far as the queue said it.
+    places: Range<u64>,
+    /// The descriptors of the chain that is read, where it has many.
+    more: Vec<Descriptor>,
     /// The head that was read last at each place of the available ring, and how many of the last places are known.
     heads: Box<[u16]>,
     known: u16,
@@ -37,6 +41,8 @@ impl Ring {
             queue: SplitQueue::new()?,
             rings: Rings::default(),
             idx: None,
+            places: 0..0,
+            more: Vec::new(),
             heads: Box::default(),
             known: 0,
             out: Box::default(),
@@ -51,7 +57,7 @@ impl Ring {
     /// that the driver began anew, it did if fewer are out by the indexes: then the device has none of these.
     pub(crate) fn begin(&mut self, rings: &Rings, may_be_anew: bool) -> Result<(), Refusal> {
         self.queue.start(rings)?;
-        self.idx = None;
+        (self.idx, self.places) = (None, 0..0);
         let size = usize::from(rings.size);
         if self.out.len() != size {
             (self.heads, self.out) = (vec![0; size].into(), vec![false; size].into());
@@ -87,8 +93,14 @@ impl Ring {
     /// Its rings lie elsewhere.
     pub(crate) fn move_to(&mut self, rings: &Rings) -> Result<(), Refusal> {
         self.queue.move_to(rings.desc_table, rings.avail_ring, rings.used_ring)?;
-        self.rings = *rings;
+        (self.rings, self.places) = (*rings, 0..0);
         Ok(())
+    }
+
+    /// The entry of the available ring that is next.
+    #[inline]
+    pub(crate) fn next_avail(&self) -> u16 {
+        self.rings.next_avail
     }
 
     #[inline]
@@ -101,35 +113,45 @@ impl Ring {
         self.count -= u16::from(std::mem::replace(&mut self.out[usize::from(head)], false));
     }
 
-    /// The index of the available ring was read as this: whether there can be so many.
+    /// Whether the index of the available ring is what the queue was told last.
     #[inline]
+    pub(crate) fn knows(&self, idx: u16) -> bool {
+        self.idx == Some(idx)
+    }
+
+    /// The index of the available ring was read as this: whether there can be so many.
     pub(crate) fn available(&mut self, idx: u16) -> Result<(), Refusal> {
-        if self.idx != Some(idx) {
+        if !self.knows(idx) {
             self.queue.available(idx)?;
             self.idx = Some(idx);
         }
         Ok(())
     }
 
-    /// Takes the next head, which is the device's. GuestMemory: its place can't be read.
+    /// Reads the next head, of those that are available. GuestMemory: its place can't be read.
     #[inline]
-    pub(crate) fn pop<M: GuestMemory + ?Sized>(&mut self, mem: &mut Near<'_, M>) -> Result<u16, Error> {
-        let head = mem.load(self.queue.head_addr()?, Ordering::Acquire)?;
-        self.queue.pop(head)?;
-        let at = self.place_of(self.rings.next_avail);
-        self.heads[at] = head;
-        self.out[usize::from(head)] = true;
-        self.rings.next_avail = self.rings.next_avail.wrapping_add(1);
-        (self.known, self.count) = (self.rings.size.min(self.known + 1), self.count + 1);
-        Ok(head)
+    pub(crate) fn head<M: GuestMemory + ?Sized>(&mut self, mem: &mut Near<'_, M>) -> Result<u16, Error> {
+        if self.places.is_empty() {
+            self.places = self.queue.head_addrs(u16::MAX)?;
+        }
+        mem.load(self.places.start, Ordering::Acquire)
     }
 
-    /// Reads the chain of the head that was taken, each descriptor once, and checks that its buffers lie in memory.
+    /// Takes the chain of this head, which was read last, and reads it, each descriptor once; and checks that its buffers lie in memory. After an
+    /// error it is no request, and `next_avail` says whether it was taken.
     #[inline]
-    pub(crate) fn follow<M: GuestMemory + ?Sized>(&mut self, mem: &mut Near<'_, M>, parts: &mut Parts) -> Result<(), Error> {
-        let (mut bytes, mut fault, mut table_read) = (0u64, None, None);
-        let followed = self.queue.follow(
-            |table, index| match mem.read(&mut table_read, table, index) {
+    pub(crate) fn take<M: GuestMemory + ?Sized>(
+        &mut self,
+        mem: &mut Near<'_, M>,
+        head: u16,
+        parts: &mut Parts,
+    ) -> Result<(), Error> {
+        let (mut bytes, mut fault) = (0u64, None);
+        self.more.clear();
+        let more = &mut self.more;
+        let taken = self.queue.take(
+            head,
+            |table, index| match mem.read(table, index) {
                 Ok(read) => Some(read),
                 Err(error) => {
                     fault = Some(error);
@@ -138,23 +160,41 @@ impl Ring {
             },
             |it| {
                 bytes += u64::from(it.len);
-                parts.push(Descriptor::new(it.addr, it.len, it.flags, it.next));
+                parts.push(Descriptor::new(it.addr, it.len, it.flags, it.next), more);
             },
         );
-        if let Some(error) = fault {
-            return Err(error);
+        if let Err(why) = taken {
+            self.note_refused(head, why);
+            return Err(fault.unwrap_or_else(|| why.into()));
         }
-        followed?;
+        self.note(head);
         if bytes > u64::from(u32::MAX) {
             return Err(Error::DescriptorChainOverflow);
         }
-        for it in parts.list() {
-            let access = if it.flags() & WRITE != 0 { Permissions::Write } else { Permissions::Read };
-            if !mem.has(it.addr().0, it.len(), access) {
-                return Err(Error::FindMemoryRegion);
-            }
+        parts.seal(&self.more);
+        match parts.list().iter().all(|it| mem.has(it)) {
+            true => Ok(()),
+            false => Err(Error::FindMemoryRegion),
         }
-        Ok(())
+    }
+
+    /// The head that was read last was refused: it is the device's nevertheless, unless it was already, or is none, or nothing more is taken.
+    #[cold]
+    fn note_refused(&mut self, head: u16, why: Refusal) {
+        if self.out.get(usize::from(head)) == Some(&false) && why != Refusal::NeedsReset {
+            self.note(head);
+        }
+    }
+
+    /// The head that was read last is the device's.
+    #[inline]
+    fn note(&mut self, head: u16) {
+        let at = self.place_of(self.rings.next_avail);
+        self.heads[at] = head;
+        self.out[usize::from(head)] = true;
+        self.places.start += 2;
+        self.rings.next_avail = self.rings.next_avail.wrapping_add(1);
+        (self.known, self.count) = (self.rings.size.min(self.known + 1), self.count + 1);
     }
 
     /// The head that was taken last is to be taken again. Whether it was the device's: else the queue has to begin anew, one entry before.
@@ -168,6 +208,7 @@ impl Ring {
             return false;
         }
         self.forget(head);
+        self.places = 0..0;
         (self.rings.next_avail, self.known) = (index, self.known - 1);
         true
     }
