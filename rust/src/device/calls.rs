@@ -438,7 +438,7 @@ impl<D: Device> VhostUserBackendReqHandler for Calls<D> {
         let kick = fd.map(|file| Kick::of(given(file)).ok_or_else(no_eventfd)).transpose()?;
         let (mut state, index) = self.with_ring(index.into())?;
         if let Some(kick) = &kick {
-            let added = self.shared.polled.add(kick, index as u32);
+            let added = self.shared.parts[state.rings[index].part].polled.add(kick, index as u32);
             added.map_err(|cause| self.refuse(failed(cause), |_| reasons::NO_EVENTFD.to_string()))?;
         }
         self.shared.set_kick(&mut state.rings[index], kick);

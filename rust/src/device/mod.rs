@@ -39,9 +39,9 @@
 //! memory, and a thread of the device's own that touches it by itself calls [`take_faults`](crate::queue::take_faults) first. Where a frontend begins postcopy, whoever touches a page that has not come waits for it until the frontend hangs up, or
 //! [`Stopper::stop`].
 //!
-//! *Threads*: [`Session::handle_events`] calls the device, one call at a time, and nothing else does. After it has told the end, and once a
-//! session is dropped, nothing is called. A request may be completed from any thread at any time, also then: what it points to stays
-//! mapped until that. A [`Taker`] takes from any thread.
+//! *Threads*: [`Session::handle_events`] calls the device, one call at a time, and nothing else does but threads of
+//! [`Device::queues_per_thread`]. After it has told the end, and once a session is dropped, nothing is called, and those threads have ended. A
+//! request may be completed from any thread at any time, also then: what it points to stays mapped until that. A [`Taker`] takes from any thread.
 //!
 //! *Queues that are taken from*: a device that has something for its guest, as a frame that came, takes a buffer of a queue of
 //! [`Device::taken_queues`] for it then. One that kept such buffers would keep whoever stops the queue waiting: a guest that reboots, and
@@ -67,10 +67,12 @@ use crate::vhost_user::{close_at_once, Backend, Error, GpuBackend};
 mod arrival;
 mod calls;
 mod request;
+mod rings;
 mod serving;
 mod session;
 mod shared;
 mod taker;
+mod threads;
 
 pub use self::request::Request;
 pub use self::serving::{run, serve};
@@ -99,7 +101,7 @@ pub const MAX_REGIONS: u64 = 509;
 ///
 /// A thread of its own that touches guest memory otherwise than by this package, and blocks all signals as workers of daemons often do, has this
 /// line at its begin: `covretin::queue::take_faults();`. Without it a frontend that truncates its memory ends the process by SIGBUS.
-pub trait Device: Send + Sync {
+pub trait Device: Send + Sync + 'static {
     /// How many queues it has: 1 to [`MAX_QUEUES`].
     fn queues(&self) -> usize {
         1
@@ -127,6 +129,29 @@ pub trait Device: Send + Sync {
     /// for them, as a network card that has a frame. So it has none meanwhile, and whoever stops such a queue is not waited for.
     fn taken_queues(&self) -> u64 {
         0
+    }
+
+    /// Queues that have threads of their own: for each thread those that it serves, a bit for each from the first on. Others are served by whoever
+    /// calls [`Session::handle_events`], as all are at first. A thread hands out what its queues have, and no call of the frontend waits for what
+    /// the device does there: it waits for that only where it stops one of these queues. Each thread makes one call at a time, and so several
+    /// come at once.
+    ///
+    /// ```
+    /// # use covretin::device::{Device, Request};
+    /// # struct Card;
+    /// # impl Device for Card {
+    /// # fn request(&self, request: Request) {}
+    /// fn queues(&self) -> usize {
+    ///     4
+    /// }
+    /// // Two threads: one receives and sends by the first pair of queues, the other by the second.
+    /// fn queues_per_thread(&self) -> Vec<u64> {
+    ///     vec![0b0011, 0b1100]
+    /// }
+    /// # }
+    /// ```
+    fn queues_per_thread(&self) -> Vec<u64> {
+        Vec::new()
     }
 
     /// The largest queue that the device takes, in descriptors: 1 to [`MAX_QUEUE_SIZE`], and more counts as that. SET_VRING_NUM of a larger one is
@@ -266,6 +291,9 @@ impl<D: Device + ?Sized> Device for Arc<D> {
     }
     fn taken_queues(&self) -> u64 {
         (**self).taken_queues()
+    }
+    fn queues_per_thread(&self) -> Vec<u64> {
+        (**self).queues_per_thread()
     }
     fn max_queue_size(&self) -> u16 {
         (**self).max_queue_size()

@@ -30,17 +30,45 @@ pub(super) struct Stop {
 }
 
 pub(super) struct Shared {
-    pub(super) polled: Polled,
+    /// The session's own thread, and those of its queues.
+    pub(super) parts: Vec<Part>,
     pub(super) holder: Arc<Holder>,
     pub(super) stop: Arc<Stop>,
-    pub(super) timer: Timer,
     ringer: Arc<Ringer>,
     state: Mutex<State>,
+}
+
+/// What a thread that serves rings waits for.
+pub(super) struct Part {
+    pub(super) polled: Polled,
+    pub(super) timer: Timer,
+    /// By what it is woken: of the session's own thread that is what the holder of its memory has.
+    wake: Option<Event>,
+}
+
+impl Part {
+    fn new(wake: Option<Event>) -> io::Result<Part> {
+        let part = Part { polled: Polled::new()?, timer: Timer::new()?, wake };
+        part.polled.add(&part.timer, TIMER)?;
+        part.wake.iter().try_for_each(|wake| part.polled.add(wake, WAKE))?;
+        Ok(part)
+    }
+}
+
+/// How a thread that serves rings stands.
+#[derive(Clone, Copy, Default)]
+pub(super) struct PartState {
+    /// No turn is under way.
+    pub(super) is_waiting: bool,
+    /// Its clock goes.
+    pub(super) is_timed: bool,
 }
 
 /// A ring, and what it is kicked and signals by.
 pub(super) struct Ring {
     pub(super) queue: Queue,
+    /// Which thread serves it.
+    pub(super) part: usize,
     pub(super) log_addr: Option<GuestAddress>,
     pub(super) kick: Option<Kick>,
     pub(super) call: Option<Bell>,
@@ -48,6 +76,8 @@ pub(super) struct Ring {
     pub(super) is_enabled: bool,
     /// Nothing more is taken; it stops once its requests are done.
     pub(super) is_ending: bool,
+    /// Then: the device is to be told that, by the thread that serves it.
+    pub(super) is_untold: bool,
     /// The driver broke a rule, or the kick can't be read.
     pub(super) is_broken: bool,
     /// The device takes from it.
@@ -88,39 +118,22 @@ pub(super) struct State {
     pub(super) out: usize,
     /// Whether a call waits for some of them.
     pub(super) waits: bool,
-    /// No turn is under way.
-    pub(super) is_waiting: bool,
+    pub(super) parts: Vec<PartState>,
+    /// Threads of queues that have not ended; and whether they are to end.
+    pub(super) threads: usize,
+    pub(super) is_over: bool,
     /// Whoever serves requests has the processor of this session, and no other.
     is_on_one_processor: bool,
-    pub(super) is_timed: bool,
     pub(super) why: Option<Arc<Ended>>,
 }
 
 impl Shared {
-    /// With so many queues, of which the device takes from these, a bit for each.
-    pub(super) fn new(queues: usize, taken_queues: u64) -> io::Result<Shared> {
-        let ring = |index: usize| {
-            Ok(Ring {
-                queue: Queue::new(MAX_QUEUE_SIZE)?,
-                log_addr: None,
-                kick: None,
-                call: None,
-                error: None,
-                is_enabled: false,
-                is_ending: false,
-                is_broken: false,
-                is_taken_of: taken_queues >> index & 1 != 0,
-                is_wanted: false,
-                broken_by: None,
-                is_due: false,
-                watch: None,
-                is_quick: false,
-                empty: Instant::now(),
-                out: 0,
-            })
-        };
+    /// With so many queues, of which the device takes from these, a bit for each; and which of them each thread serves, beside the session's own.
+    pub(super) fn new(queues: usize, taken_queues: u64, of_threads: &[u64]) -> io::Result<Shared> {
+        let part_of = |index: usize| of_threads.iter().position(|mask| mask >> index & 1 != 0).map_or(0, |at| at + 1);
+        let rings = (0..queues).map(|index| Ring::new(part_of(index), taken_queues >> index & 1 != 0));
         let state = State {
-            rings: (0..queues).map(ring).collect::<Result<_, Error>>()?,
+            rings: rings.collect::<Result<_, Error>>()?,
             features: 0,
             protocol_features: 0,
             memory: None,
@@ -131,18 +144,51 @@ impl Shared {
             channel: None,
             out: 0,
             waits: false,
-            is_waiting: false,
+            parts: vec![PartState::default(); 1 + of_threads.len()],
+            threads: 0,
+            is_over: false,
             is_on_one_processor: available_parallelism().map_or(false, |count| count.get() == 1),
-            is_timed: false,
             why: None,
         };
-        let (polled, wake, timer) = (Polled::new()?, Event::new()?, Timer::new()?);
+        let (own, wake) = (Part::new(None)?, Event::new()?);
         let stop = Arc::new(Stop { is_stopped: AtomicBool::new(false), event: Event::new()? });
-        polled.add(&wake, WAKE)?;
-        polled.add(&stop.event, STOP)?;
-        polled.add(&timer, TIMER)?;
+        own.polled.add(&wake, WAKE)?;
+        own.polled.add(&stop.event, STOP)?;
+        let mut parts = vec![own];
+        for _ in of_threads {
+            parts.push(Part::new(Some(Event::new()?))?);
+        }
         let holder = Arc::new(Holder::woken_by(wake));
-        Ok(Shared { polled, holder, stop, timer, ringer: Ringer::shared()?, state: Mutex::new(state) })
+        Ok(Shared { parts, holder, stop, ringer: Ringer::shared()?, state: Mutex::new(state) })
+    }
+
+    /// What the session's own thread waits for.
+    pub(super) fn polled(&self) -> &Polled {
+        &self.parts[0].polled
+    }
+
+    /// By what a thread is woken.
+    pub(super) fn waking(&self, part: usize) -> Option<&Event> {
+        self.parts[part].wake.as_ref().or_else(|| self.holder.waking())
+    }
+
+    /// Has a thread look again.
+    pub(super) fn wake(&self, part: usize) {
+        self.waking(part).iter().for_each(|wake| wake.set());
+    }
+
+    /// The same of all threads of queues.
+    pub(super) fn wake_threads(&self) {
+        (1..self.parts.len()).for_each(|part| self.wake(part));
+    }
+
+    /// The same of those that have rings which are due.
+    pub(super) fn wake_due(&self) {
+        if self.parts.len() > 1 {
+            let state = self.lock();
+            let due = state.rings.iter().filter(|ring| ring.is_due && ring.part != 0);
+            due.for_each(|ring| self.wake(ring.part));
+        }
     }
 
     pub(super) fn lock(&self) -> MutexGuard<'_, State> {
@@ -176,7 +222,7 @@ impl Shared {
             taken.extend(next);
         }
         if state.rings[index].broken_by.is_some() {
-            self.holder.wake(); // nothing is called back from here
+            self.wake(state.rings[index].part); // nothing is called back from here
         }
         taken
     }
@@ -226,7 +272,10 @@ impl Shared {
                 self.signal(&ring.call);
             }
         }
-        if state.count_in(index, count) || state.waits || state.why.is_some() {
+        if state.count_in(index, count) {
+            self.wake(state.rings[index].part);
+        }
+        if state.waits || state.why.is_some() {
             self.holder.wake();
         }
     }
@@ -237,7 +286,7 @@ impl Shared {
 
     /// A ring has this kick from now on, or none.
     pub(super) fn set_kick(&self, ring: &mut Ring, kick: Option<Kick>) {
-        ring.kick.iter().for_each(|kick| self.polled.remove(kick));
+        ring.kick.iter().for_each(|kick| self.parts[ring.part].polled.remove(kick));
         ring.kick = kick;
     }
 
@@ -248,6 +297,31 @@ impl Shared {
         (ring.is_due, ring.is_ending, ring.is_broken, ring.watch) = (false, false, false, None);
         ring.broken_by = None;
         let _ = ring.queue.set_ready(false);
+    }
+}
+
+impl Ring {
+    fn new(part: usize, is_taken_of: bool) -> Result<Ring, Error> {
+        Ok(Ring {
+            queue: Queue::new(MAX_QUEUE_SIZE)?,
+            part,
+            log_addr: None,
+            kick: None,
+            call: None,
+            error: None,
+            is_enabled: false,
+            is_ending: false,
+            is_untold: false,
+            is_broken: false,
+            is_taken_of,
+            is_wanted: false,
+            broken_by: None,
+            is_due: false,
+            watch: None,
+            is_quick: false,
+            empty: Instant::now(),
+            out: 0,
+        })
     }
 }
 
@@ -283,7 +357,7 @@ impl State {
             return false;
         }
         ring.empty = Instant::now();
-        let begins = self.is_waiting && ring.is_quick && is_running && !ring.is_taken_of;
+        let begins = self.parts[ring.part].is_waiting && ring.is_quick && is_running && !ring.is_taken_of;
         ring.is_due |= begins;
         begins
     }
@@ -313,12 +387,12 @@ impl State {
         has_some
     }
 
-    /// The rings that are to be stopped, of these, and have not been told of. Nothing more is taken of them.
-    pub(super) fn begin_stop(&mut self, indexes: std::ops::Range<usize>) -> Vec<usize> {
-        let mut begun = Vec::new();
-        for (index, ring) in self.rings.iter_mut().enumerate().filter(|(index, _)| indexes.contains(index)) {
+    /// These rings are to be stopped, and the device is to be told of those that run. Nothing more is taken of them. Whether there are some.
+    pub(super) fn begin_stop(&mut self, indexes: std::ops::Range<usize>) -> bool {
+        let mut begun = false;
+        for (_, ring) in self.rings.iter_mut().enumerate().filter(|(index, _)| indexes.contains(index)) {
             if ring.queue.ready() && !std::mem::replace(&mut ring.is_ending, true) {
-                begun.push(index);
+                (ring.is_untold, begun) = (true, true);
             }
         }
         begun
