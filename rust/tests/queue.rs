@@ -425,3 +425,38 @@ fn a_packed_queue_moves() {
         assert_eq!((1, 0x8080), (it.get16(0x800c), it.get16(0x800e)));
     });
 }
+
+/// Memory of vm-memory's is seen here, and the reverse; what is of no memory file is not mapped, nor of another one.
+#[cfg(feature = "vm-memory")]
+#[test]
+fn memory_is_shared_with_vm_memory() {
+    use vm_memory::{Bytes, FileOffset, GuestMemory as _, GuestMemoryMmap, GuestRegionMmap, MmapRegion, VolatileMemory};
+    counted(|| {
+        let (file, start) = (memory_file(), vm_memory::GuestAddress(GUEST));
+        file.set_len(2 * SIZE).unwrap();
+        let place = FileOffset::new(file.try_clone().unwrap(), 0x1000);
+        let theirs: GuestMemoryMmap = GuestMemoryMmap::from_ranges_with_files([(start, SIZE as usize, Some(place))]).unwrap();
+        let regions: Vec<GuestRegion> = theirs.iter().map(|it| GuestRegion::from_guest_region(it).unwrap()).collect();
+        let host = theirs.iter().next().unwrap().as_ptr() as u64;
+        let memory = GuestMemory::from_regions(regions).unwrap();
+        assert_eq!(Ok(GuestAddress(GUEST + 5)), memory.translate(host + 5, 4));
+        theirs.write_slice(b"over", vm_memory::GuestAddress(GUEST + 5)).unwrap();
+        let mut bytes = [0; 4];
+        memory.get_slice(GuestAddress(GUEST + 5), 4).unwrap().copy_to(&mut bytes);
+        assert_eq!(b"over", &bytes);
+
+        let region = memory.iter().next().unwrap();
+        let again: MmapRegion<()> = region.mmap_region(file.try_clone().unwrap()).unwrap();
+        assert_eq!(SIZE as usize, again.len());
+        again.get_slice(5, 4).unwrap().copy_from(b"back");
+        region.as_volatile_slice().offset(5).unwrap().copy_to(&mut bytes);
+        assert_eq!(b"back", &bytes);
+
+        let other = memory_file();
+        other.set_len(2 * SIZE).unwrap();
+        let wrong = region.mmap_region::<()>(other).map(drop).map_err(|cause| cause.kind());
+        assert_eq!(Err(std::io::ErrorKind::InvalidInput), wrong);
+        let of_no_file: GuestRegionMmap<()> = GuestRegionMmap::new(MmapRegion::new(SIZE as usize).unwrap(), start).unwrap();
+        assert_eq!(std::io::ErrorKind::InvalidInput, GuestRegion::from_guest_region(&of_no_file).unwrap_err().kind());
+    });
+}

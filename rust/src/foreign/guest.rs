@@ -74,6 +74,13 @@ impl Mapping {
         (self.part, self.size) == (other.part, other.size)
     }
 
+    /// Where in a file it begins; None: it is of another file.
+    #[cfg(feature = "vm-memory")]
+    pub(crate) fn offset_in(&self, file: &impl AsRawFd) -> Option<u64> {
+        let (device, number, offset) = self.part;
+        memory_file(file.as_raw_fd()).filter(|about| (about.st_dev, about.st_ino) == (device, number)).map(|_| offset)
+    }
+
     /// Where it is mapped.
     pub(crate) fn host(&self) -> u64 {
         (self.all + self.into) as u64
