@@ -195,6 +195,13 @@ static void plan(struct session *session)
     session->is_timed = is_timed;
 }
 
+/* Another device may go on with the rings. */
+static void leave_rings(struct session *session)
+{
+    for (uint32_t i = 0; i < session->calls->queues; i++)
+        ring_leave(session, &session->rings[i]);
+}
+
 /* All that the frontend gave is given up, but for what requests still point to. */
 static void give_up(struct session *session)
 {
@@ -287,9 +294,10 @@ enum covretin_error covretin_device_serve(covretin_device *device)
     for (unsigned turn = 1; turn < MOST_TURNS && !has_ended(session) && rings_busy_poll(session); turn++)
         serve_what_is_ready(session);
     if (session->frontend.opaque != NULL) {
-        if (has_ended(session))
+        if (has_ended(session)) {
+            leave_rings(session);
             give_up(session);
-        else
+        } else
             plan(session);
     }
     if (session->why != COVRETIN_OK && session->out == 0) {
@@ -460,6 +468,23 @@ void covretin_device_close(covretin_device *device)
 
 /* -- Requests -- */
 
+/* What held so many requests holds none any more. Neighbours are mostly in one space, which is let go of once then. */
+static void drop_many(struct session *session, covretin_request *const *requests, size_t count)
+{
+    struct space *space = NULL;
+    size_t users = 0;
+    for (size_t i = 0; i < count; i++, users++) {
+        struct taken *taken = (struct taken *)(void *)requests[i];
+        if (taken->space != space) {
+            space_release_many(space, users);
+            space = taken->space;
+            users = 0;
+        }
+        taken_drop(session, taken);
+    }
+    space_release_many(space, users);
+}
+
 /* Those of a queue that lie side by side are given back together: how many these are. */
 static size_t done_alike(struct session *session, covretin_request *const *requests, const uint32_t *written, size_t count)
 {
@@ -469,11 +494,7 @@ static size_t done_alike(struct session *session, covretin_request *const *reque
         alike++;
     if (!has_ended(session))
         ring_give(session, ring, requests, written, alike);
-    for (size_t i = 0; i < alike; i++) {
-        struct taken *taken = (struct taken *)(void *)requests[i];
-        space_release(taken->space);
-        taken_drop(session, taken);
-    }
+    drop_many(session, requests, alike);
     ring_count_in(session, ring, alike);
     return alike;
 }

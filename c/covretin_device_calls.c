@@ -414,6 +414,7 @@ static enum covretin_error get_vring_base(struct session *session)
         return reply(session, false);
     if (ring->is_started && covretin_queue_base(&ring->queue, &ring->base) == COVRETIN_QUEUE_OK)
         ring->has_base = true;
+    ring_leave(session, ring);
     ring_stop(session, ring);
     return covretin_reply_ring(&session->frontend.backend, number_of(session, ring), ring->base);
 }

@@ -378,7 +378,12 @@ struct space *space_new(const struct space *before, size_t without, struct mappi
 
 void space_release(struct space *space)
 {
-    if (space == NULL || --space->users != 0)
+    space_release_many(space, 1);
+}
+
+void space_release_many(struct space *space, size_t count)
+{
+    if (space == NULL || (space->users -= count) != 0)
         return;
     for (size_t i = 0; i < space->count; i++)
         mapping_release(space->mappings[i]);

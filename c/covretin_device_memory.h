@@ -77,6 +77,9 @@ struct space {
 struct space *space_new(const struct space *before, size_t without, struct mapping *const *added, size_t count);
 void space_release(struct space *space);
 
+/* The same of so many that use it. */
+void space_release_many(struct space *space, size_t count);
+
 /* -- Postcopy -- */
 
 /* Memory that arrives page by page. A thread looks whether any page can still come: whoever waits for one sees nothing else. */

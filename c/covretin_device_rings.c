@@ -21,6 +21,9 @@
 
 enum { UNSAID = 0x100000 }; /* as covretin_request_done says */
 
+/* What is done for each chain is put into what is done for a burst; calls between its parts would be an eighth of all instructions. */
+#define IN_PLACE __attribute__((always_inline)) static inline
+
 /* -- Bytes of the guest, each read once -- */
 
 static uint16_t read16(uint64_t at)
@@ -87,6 +90,21 @@ static void log_ring(const struct session *session, const struct ring *ring, cov
 
 /* -- Their life -- */
 
+/* Has the driver tell of more, or not. Whether it can be asked. */
+static bool ask_for_kicks(const struct session *session, struct ring *ring, bool are_wanted)
+{
+    covretin_event_write event;
+    ring->kicks = KICKS_UNKNOWN;
+    if (covretin_queue_set_notification(&ring->queue, are_wanted, &event))
+        return false;
+    ring->kicks = are_wanted ? KICKS_WANTED : KICKS_UNWANTED;
+    if (event.place.len != 0) {
+        write_bytes(event.place.addr, event.value, event.place.len);
+        log_ring(session, ring, event.place);
+    }
+    return true;
+}
+
 bool ring_is_running(const struct session *session, const struct ring *ring)
 {
     return ring->is_started && !ring->is_ending && !ring->is_broken && !ring->is_away &&
@@ -112,6 +130,16 @@ static bool not_to_start(struct session *session, const struct ring *ring, const
 static bool starts(struct session *session, const struct ring *ring, enum covretin_queue_error error)
 {
     return error == COVRETIN_QUEUE_OK || not_to_start(session, ring, log_rule(error));
+}
+
+/* Where its descriptors are mapped. What else was found of the ring is to be looked for anew. */
+static enum covretin_queue_error find_table(struct ring *ring)
+{
+    const uint64_t size = ring->size * sizeof(covretin_descriptor);
+    ring->shows = 0;
+    ring->available = 0;
+    ring->head_at = ring->head_count = 0;
+    return covretin_queue_translate(&ring->queue, true, ring->place.desc_table_addr, size, &ring->table);
 }
 
 static bool start_split(struct session *session, struct ring *ring)
@@ -182,15 +210,15 @@ static void forget_again(struct ring *ring)
 bool ring_start(struct session *session, struct ring *ring)
 {
     ring->is_packed = (session->features & COVRETIN_DEVICE_RING_PACKED) != 0;
-    ring->available = 0;
     forget_again(ring);
     if (session->space == NULL)
         return not_to_start(session, ring, REASON_NO_MEMORY);
-    if (!(ring->is_packed ? start_packed(session, ring) : start_split(session, ring))) {
+    if (!(ring->is_packed ? start_packed(session, ring) : start_split(session, ring)) || !starts(session, ring, find_table(ring))) {
         forget_again(ring);
         return false;
     }
     use_space(session, ring);
+    ring->kicks = KICKS_UNKNOWN;
     ring->is_started = ring->is_due = true;
     ring->is_broken = ring->is_ending = ring->is_away = false;
     return true;
@@ -201,12 +229,12 @@ void ring_move(struct session *session, struct ring *ring)
     const covretin_vring *to = &ring->place;
     if (!ring->is_started)
         return;
-    if (ring->is_packed) {
+    if (ring->is_packed)
         ring->is_away = covretin_queue_move_packed(&ring->queue, to->desc_table_addr, to->avail_ring_addr, to->used_ring_addr) != 0;
-        ring->available = 0; /* (the chain that was found is none any more) */
-    } else
+    else
         ring->is_away = covretin_queue_move_split(&ring->queue, to->desc_table_addr, to->avail_ring_addr, to->used_ring_addr) ||
                         find_used(ring) == 0;
+    ring->is_away = ring->is_away || find_table(ring) != COVRETIN_QUEUE_OK;
     if (!ring->is_away)
         use_space(session, ring);
     ring->is_due = true;
@@ -232,6 +260,12 @@ void ring_drop_kick(const struct session *session, struct ring *ring)
     ring->kick = -1;
 }
 
+void ring_leave(const struct session *session, struct ring *ring)
+{
+    if (ring->is_started && !ring->is_away && ring->kicks == KICKS_UNWANTED && !session->holder.has_lost)
+        ask_for_kicks(session, ring, true);
+}
+
 void ring_stop(struct session *session, struct ring *ring)
 {
     ring_drop_kick(session, ring);
@@ -247,14 +281,22 @@ void ring_stop(struct session *session, struct ring *ring)
 
 /* -- What is available -- */
 
-static enum covretin_queue_error look(struct ring *ring)
+/* Where the ring shows what is available, which is asked once for a split ring. */
+static enum covretin_queue_error find_shown(struct ring *ring)
 {
     covretin_range place;
-    enum covretin_queue_error error = covretin_queue_available_place(&ring->queue, &place);
+    enum covretin_queue_error error = ring->shows == 0 ? covretin_queue_available_place(&ring->queue, &place) : COVRETIN_QUEUE_OK;
+    if (!error && ring->shows == 0)
+        ring->shows = place.addr;
+    return error;
+}
+
+static enum covretin_queue_error look(struct ring *ring)
+{
+    enum covretin_queue_error error = find_shown(ring);
     if (error)
         return error;
-    ring->shows = place.addr;
-    ring->shown = read16(place.addr);
+    ring->shown = read16(ring->shows);
     return covretin_queue_available(&ring->queue, ring->shown, &ring->available);
 }
 
@@ -265,10 +307,13 @@ static void read_once(covretin_descriptor *to, uint64_t at)
     __asm__("" : "+m"(*to));
 }
 
-enum { COPIES = 64, NEXT = 1, INDIRECT = 4 };
+enum { NEXT = 1, INDIRECT = 4 };
+
+/* How many bytes ahead of what is read a packed ring is fetched. */
+enum { AHEAD = 256 };
 
 /* Copies descriptors from where the chain goes on, as many as there is room for: of a split ring's chain, */
-static size_t copy_linked(const covretin_table *table, covretin_descriptor *copies)
+IN_PLACE size_t copy_linked(const covretin_table *table, covretin_descriptor *copies)
 {
     const size_t entries = table->range.len / sizeof *copies;
     size_t count = 0, at = table->next;
@@ -281,7 +326,7 @@ static size_t copy_linked(const covretin_table *table, covretin_descriptor *copi
 }
 
 /* and of a packed one's, which lie in a row, round the ring's end; or are all that an indirect table has. */
-static size_t copy_row(const covretin_table *table, bool is_indirect, covretin_descriptor *copies)
+IN_PLACE size_t copy_row(const covretin_table *table, bool is_indirect, covretin_descriptor *copies)
 {
     const size_t entries = table->range.len / sizeof *copies;
     size_t count = 0, at = table->next;
@@ -297,28 +342,72 @@ static size_t copy_row(const covretin_table *table, bool is_indirect, covretin_d
     return count;
 }
 
-/* Follows the chain to its end, by copies of its descriptors. */
-static enum covretin_queue_error follow(struct session *session, struct ring *ring, uint16_t *id)
+/* Copies what comes next of a chain, of either layout. */
+IN_PLACE size_t copy_next(struct session *session, bool is_packed, const covretin_table *table, bool is_indirect)
 {
-    covretin_descriptor copies[COPIES];
+    return is_packed ? copy_row(table, is_indirect, session->copies) : copy_linked(table, session->copies);
+}
+
+/* A chain that is followed by copies of its descriptors. */
+struct chain {
     covretin_walked walked;
-    bool is_indirect = false;
-    enum covretin_queue_error error = covretin_queue_table(&ring->queue, &walked.table);
-    session->segment_count = 0;
-    while (!error && walked.table.goes_on) {
-        size_t count = ring->is_packed ? copy_row(&walked.table, is_indirect, copies) : copy_linked(&walked.table, copies);
+    size_t count;     /* of the copies */
+    bool is_indirect; /* what comes of a packed ring's chain lies in no ring */
+    uint16_t id;
+};
+
+/* Descriptors of a packed ring were followed up to this one. The last that lies in the ring has the chain's id. Behind it the next chain begins; where
+ * that is round the ring's end, the queue is asked. */
+IN_PLACE void leave_ring(struct ring *ring, struct chain *chain, const covretin_descriptor *last)
+{
+    chain->id = last->third;
+    chain->is_indirect = (last->fourth & INDIRECT) != 0;
+    ring->shows += ring->shows != 0 ? chain->count * sizeof *last : 0;
+    if (ring->shows >= ring->table.addr + ring->table.len)
+        ring->shows = 0;
+}
+
+/* The copies were followed, and their segments are the session's. */
+IN_PLACE enum covretin_queue_error go_on(struct session *session, struct ring *ring, bool is_packed, struct chain *chain)
+{
+    session->segment_count += chain->walked.count;
+    if (chain->walked.taken < chain->count)
+        return COVRETIN_QUEUE_CHAIN_TOO_LONG;
+    if (is_packed && !chain->is_indirect && chain->count != 0)
+        leave_ring(ring, chain, &session->copies[chain->count - 1]);
+    return COVRETIN_QUEUE_OK;
+}
+
+/* Follows the chain to its end. */
+static enum covretin_queue_error follow(struct session *session, struct ring *ring, struct chain *chain)
+{
+    enum covretin_queue_error error = COVRETIN_QUEUE_OK;
+    while (!error && chain->walked.table.goes_on) {
         size_t room = COVRETIN_DEVICE_MAX_QUEUE_SIZE - session->segment_count;
-        error = covretin_queue_walk(&ring->queue, copies, count, &session->segments[session->segment_count], room, &walked);
-        if (error)
-            return error;
-        session->segment_count += walked.count;
-        if (walked.taken < count)
-            return COVRETIN_QUEUE_CHAIN_TOO_LONG;
-        if (ring->is_packed && !is_indirect) {
-            *id = copies[count - 1].third;
-            is_indirect = (copies[count - 1].fourth & INDIRECT) != 0;
-        }
+        covretin_segment *segments = &session->segments[session->segment_count];
+        chain->count = copy_next(session, ring->is_packed, &chain->walked.table, chain->is_indirect);
+        error = covretin_queue_walk(&ring->queue, session->copies, chain->count, segments, room, &chain->walked);
+        error = error ? error : go_on(session, ring, ring->is_packed, chain);
     }
+    return error;
+}
+
+/* Takes the chain that begins at this entry of the table, and follows it to its end: by a head, or by flags. */
+IN_PLACE enum covretin_queue_error take_chain(struct session *session, struct ring *ring, bool is_packed, uint16_t value, uint16_t at, uint16_t *id)
+{
+    const covretin_table table = {ring->table, at, true};
+    struct chain chain;
+    enum covretin_queue_error error;
+    chain.id = value;
+    chain.is_indirect = false;
+    chain.count = copy_next(session, is_packed, &table, false);
+    session->segment_count = 0;
+    error = covretin_queue_take(&ring->queue, value, session->copies, chain.count, session->segments, COVRETIN_DEVICE_MAX_QUEUE_SIZE, &chain.walked);
+    if (!error)
+        error = go_on(session, ring, is_packed, &chain);
+    if (!error && chain.walked.table.goes_on)
+        error = follow(session, ring, &chain);
+    *id = chain.id;
     return error;
 }
 
@@ -361,69 +450,94 @@ static enum covretin_queue_error follow_kept(struct session *session, struct rin
     }
 }
 
-/* Reads the descriptors of the chain that is followed, to its end. */
-static enum covretin_queue_error read_chain(struct session *session, struct ring *ring, uint16_t *id, bool again)
-{
-    bool is_kept = ring->is_packed && ring->inflight != NULL;
-    return is_kept ? follow_kept(session, ring, id, again) : follow(session, ring, id);
-}
-
-static enum covretin_queue_error take_head(struct ring *ring, uint16_t *id)
+/* Reads the next heads of a split ring: as many as are told of, up to the ring's end. Their descriptors are read soon. NOTHING_AVAILABLE: there is
+ * none. */
+static enum covretin_queue_error read_heads(struct ring *ring)
 {
     covretin_range place;
-    enum covretin_queue_error error = covretin_queue_head_place(&ring->queue, &place);
+    enum covretin_queue_error error = ring->available == 0 ? look(ring) : COVRETIN_QUEUE_OK;
+    if (error || ring->available == 0)
+        return error ? error : COVRETIN_QUEUE_NOTHING_AVAILABLE;
+    error = covretin_queue_heads_place(&ring->queue, COVRETIN_DEVICE_BURST, &place);
     if (error)
         return error;
-    *id = read16(place.addr);
-    error = covretin_queue_pop(&ring->queue, *id);
+    ring->head_at = 0;
+    ring->head_count = place.len / sizeof *ring->heads;
+    for (size_t i = 0; i < ring->head_count; i++) {
+        ring->heads[i] = read16(place.addr + i * sizeof *ring->heads);
+        __builtin_prefetch((const void *)(uintptr_t)(ring->table.addr + ring->heads[i] * sizeof(covretin_descriptor)));
+    }
+    ring->available = (uint16_t)(ring->available - ring->head_count);
+    return COVRETIN_QUEUE_OK;
+}
+
+IN_PLACE enum covretin_queue_error take_split(struct session *session, struct ring *ring, uint16_t *id)
+{
+    enum covretin_queue_error error = ring->head_at == ring->head_count ? read_heads(ring) : COVRETIN_QUEUE_OK;
+    uint16_t head;
+    if (error)
+        return error;
+    head = ring->heads[ring->head_at++];
+    error = take_chain(session, ring, false, head, head, id);
     if (!error && ring->inflight != NULL)
-        inflight_take_head(ring, *id);
+        inflight_take_head(ring, head);
+    return error;
+}
+
+/* Whether there is a chain is seen by the flags of its first descriptor, which are read before it. */
+static enum covretin_queue_error take_packed(struct session *session, struct ring *ring, uint16_t *id)
+{
+    enum covretin_queue_error error = find_shown(ring);
+    uint64_t at;
+    if (error)
+        return error;
+    at = (ring->shows - ring->table.addr) / sizeof(covretin_descriptor);
+    ring->shown = read16(ring->shows);
+    __builtin_prefetch((const void *)(uintptr_t)(ring->shows + AHEAD));
+    return take_chain(session, ring, true, ring->shown, (uint16_t)at, id);
+}
+
+/* The same of a ring that has an inflight region. */
+static enum covretin_queue_error take_kept(struct session *session, struct ring *ring, uint16_t *id)
+{
+    enum covretin_queue_error error = look(ring);
+    if (error || ring->available == 0)
+        return error ? error : COVRETIN_QUEUE_NOTHING_AVAILABLE;
+    ring->kept = (struct kept){.head = ring->free_head, .behind = ring->free_head};
+    error = follow_kept(session, ring, id, false);
+    ring->shows = 0;
+    if (!error)
+        inflight_take_kept(ring);
     return error;
 }
 
 /* A request that the device before had. */
 static enum covretin_queue_error take_again(struct session *session, struct ring *ring, uint16_t *id)
 {
+    struct chain chain = {0};
     enum covretin_queue_error error;
     *id = ring->again[ring->again_at++].head;
     ring->kept = (struct kept){.head = *id, .behind = *id};
-    error = ring->is_packed ? covretin_queue_resubmit_packed(&ring->queue) : covretin_queue_resubmit(&ring->queue, *id);
-    return error ? error : read_chain(session, ring, id, true);
+    session->segment_count = 0;
+    if (ring->is_packed) {
+        ring->shows = 0; /* (it goes on, too) */
+        error = covretin_queue_resubmit_packed(&ring->queue);
+        return error ? error : follow_kept(session, ring, id, true);
+    }
+    error = covretin_queue_resubmit(&ring->queue, *id);
+    error = error ? error : covretin_queue_table(&ring->queue, &chain.walked.table);
+    return error ? error : follow(session, ring, &chain);
 }
 
 /* The next request, whose segments are the session's then. NOTHING_AVAILABLE: there is none. */
-static enum covretin_queue_error take(struct session *session, struct ring *ring, uint16_t *id, bool *again)
+IN_PLACE enum covretin_queue_error take(struct session *session, struct ring *ring, uint16_t *id, bool *again)
 {
-    enum covretin_queue_error error = COVRETIN_QUEUE_OK;
     *again = ring->again_at < ring->again_count;
     if (*again)
         return take_again(session, ring, id);
-    if (ring->available == 0)
-        error = look(ring);
-    if (error || ring->available == 0)
-        return error ? error : COVRETIN_QUEUE_NOTHING_AVAILABLE;
-    ring->available--;
-    ring->kept = (struct kept){.head = ring->free_head, .behind = ring->free_head};
     if (!ring->is_packed)
-        error = take_head(ring, id);
-    if (!error)
-        error = read_chain(session, ring, id, false);
-    if (!error && ring->is_packed && ring->inflight != NULL)
-        inflight_take_kept(ring);
-    return error;
-}
-
-/* Has the driver tell of more, or not. Whether it can be asked. */
-static bool ask_for_kicks(const struct session *session, struct ring *ring, bool are_wanted)
-{
-    covretin_event_write event;
-    if (covretin_queue_set_notification(&ring->queue, are_wanted, &event))
-        return false;
-    if (event.place.len != 0) {
-        write_bytes(event.place.addr, event.value, event.place.len);
-        log_ring(session, ring, event.place);
-    }
-    return true;
+        return take_split(session, ring, id);
+    return ring->inflight == NULL ? take_packed(session, ring, id) : take_kept(session, ring, id);
 }
 
 /* Has the driver tell of more. Whether there is more already. */
@@ -538,19 +652,9 @@ bool rings_busy_poll(struct session *session)
 
 /* -- Requests -- */
 
-enum { KEPT_SEGMENTS = 4, MOST_KEPT = 2 * COVRETIN_DEVICE_BURST };
-
-/* What holds a request of so many segments. Those of few are kept for the next ones, since most requests have few. */
-static struct taken *taken_find(struct session *session, size_t count)
+static struct taken *taken_make(struct session *session, size_t room)
 {
-    struct taken *taken = session->spare;
-    const size_t room = count > KEPT_SEGMENTS ? count : KEPT_SEGMENTS;
-    if (taken != NULL && room == KEPT_SEGMENTS) {
-        session->spare = taken->next;
-        session->spare_count--;
-        return taken;
-    }
-    taken = malloc(sizeof *taken + room * (sizeof(struct iovec) + sizeof(struct part)));
+    struct taken *taken = malloc(sizeof *taken + room * (sizeof(struct iovec) + sizeof(struct part)));
     if (taken == NULL)
         return NULL;
     taken->session = session;
@@ -559,27 +663,29 @@ static struct taken *taken_find(struct session *session, size_t count)
     return taken;
 }
 
+/* What holds a request of so many segments. Those of few are kept for the next ones, since most requests have few. */
+IN_PLACE struct taken *taken_find(struct session *session, size_t count)
+{
+    if (count > KEPT_SEGMENTS)
+        return taken_make(session, count);
+    return session->spare_count != 0 ? session->spare[--session->spare_count] : taken_make(session, KEPT_SEGMENTS);
+}
+
 void taken_drop(struct session *session, struct taken *taken)
 {
-    if (taken->room != KEPT_SEGMENTS || session->spare_count == MOST_KEPT) {
+    if (taken->room == KEPT_SEGMENTS && session->spare_count != MOST_KEPT)
+        session->spare[session->spare_count++] = taken;
+    else
         free(taken);
-        return;
-    }
-    taken->next = session->spare;
-    session->spare = taken;
-    session->spare_count++;
 }
 
 void taken_free_kept(struct session *session)
 {
-    while (session->spare != NULL) {
-        struct taken *taken = session->spare;
-        session->spare = taken->next;
-        free(taken);
-    }
+    while (session->spare_count != 0)
+        free(session->spare[--session->spare_count]);
 }
 
-static struct taken *taken_new(struct session *session, struct ring *ring, uint16_t id, bool again)
+IN_PLACE struct taken *taken_new(struct session *session, struct ring *ring, uint16_t id, bool again)
 {
     const size_t count = session->segment_count;
     struct taken *taken = taken_find(session, count);
@@ -603,21 +709,25 @@ static struct taken *taken_new(struct session *session, struct ring *ring, uint1
     return taken;
 }
 
-/* The request is the device's. It is counted before that has it, who may be done with it at once. NULL: the session ends. */
-static covretin_request *count_out(struct session *session, struct ring *ring, uint16_t id, bool again)
+static uint64_t bytes_of(const covretin_request *request)
 {
-    struct taken *taken = taken_new(session, ring, id, again);
-    if (taken == NULL) {
-        session->why = COVRETIN_OUT_OF_MEMORY;
-        return NULL;
-    }
-    COUNT(session, requests, 1);
-    for (size_t i = 0; i < session->segment_count && session->calls->stats != NULL; i++)
-        COUNT(session, bytes, session->segments[i].range.len);
-    taken->space->users++;
-    ring->out++;
-    session->out++;
-    return &taken->request;
+    uint64_t bytes = 0;
+    for (size_t i = 0; i < request->readable + request->writable; i++)
+        bytes += request->segments[i].iov_len;
+    return bytes;
+}
+
+/* So many requests of a ring are the device's. They are counted before that has them, who may be done with them at once. */
+static void count_out(struct session *session, struct ring *ring, covretin_request *const *requests, size_t count)
+{
+    if (count == 0)
+        return;
+    COUNT(session, requests, count);
+    for (size_t i = 0; i < count && session->calls->stats != NULL; i++)
+        COUNT(session, bytes, bytes_of(requests[i]));
+    session->space->users += count;
+    ring->out += count;
+    session->out += count;
 }
 
 static void hand_out(struct session *session, covretin_request *const *requests, size_t count)
@@ -659,30 +769,42 @@ struct burst {
     bool is_over;                    /* the part of the turn is */
 };
 
-/* Takes a request, and says why there is none. Where memory of the session is lost there is none: what was read may be zeros that nobody wrote. */
-static covretin_request *take_one(struct session *session, struct ring *ring, enum covretin_queue_error *error)
+/* Takes a request, and says why there is none. Where memory of the session is lost there is none: what was read may be zeros that nobody wrote. And
+ * where there is no memory for it the session ends. */
+IN_PLACE covretin_request *take_one(struct session *session, struct ring *ring, enum covretin_queue_error *error)
 {
     uint16_t id = 0;
     bool again;
+    struct taken *taken;
     *error = take(session, ring, &id, &again);
-    return *error || session->holder.has_lost ? NULL : count_out(session, ring, id, again);
+    if (*error || session->holder.has_lost)
+        return NULL;
+    taken = taken_new(session, ring, id, again);
+    if (taken == NULL)
+        session->why = COVRETIN_OUT_OF_MEMORY;
+    return taken != NULL ? &taken->request : NULL;
 }
 
 size_t ring_take(struct session *session, struct ring *ring, covretin_request **requests, size_t most)
 {
     enum covretin_queue_error error = COVRETIN_QUEUE_OK;
+    bool has_asked = false;
     size_t count = 0;
     if (!is_taken_of(session, ring) || !ring_is_running(session, ring) || session->why != COVRETIN_OK || session->is_stopped)
         return 0;
     while (count < most) {
         requests[count] = take_one(session, ring, &error);
-        /* (whose input waits for a request hears of the next one by its kick) */
-        if (error == COVRETIN_QUEUE_NOTHING_AVAILABLE && count == 0 && session->calls->input_ready != NULL && wait_for_kicks(session, ring))
-            requests[count] = take_one(session, ring, &error);
-        if (requests[count] == NULL)
+        if (requests[count] != NULL) {
+            has_asked = false;
+            count++;
+            continue;
+        }
+        /* (who finds too few hears of the next one by its kick) */
+        if (error != COVRETIN_QUEUE_NOTHING_AVAILABLE || has_asked || !wait_for_kicks(session, ring))
             break;
-        count++;
+        has_asked = true;
     }
+    count_out(session, ring, requests, count);
     if (error && error != COVRETIN_QUEUE_NOTHING_AVAILABLE) {
         ring->is_broken = ring->is_due = true; /* ring_serve tells that: nothing is called back from here */
         ring->broken_by = error;
@@ -690,27 +812,33 @@ size_t ring_take(struct session *session, struct ring *ring, covretin_request **
     return count;
 }
 
-/* Takes as many requests as the device gets at once. */
+/* Takes as many requests as the device gets at once, before the time is looked at. */
 static void take_burst(struct session *session, struct ring *ring, struct burst *burst)
 {
     const size_t most = session->calls->requests != NULL ? COVRETIN_DEVICE_BURST : 1;
+    covretin_request *request;
+    unsigned done = 0;
     burst->count = 0;
     do {
-        burst->requests[burst->count] = take_one(session, ring, &burst->error);
-        burst->is_over = part_is_over(session, LOOK_AFTER / 8 + (unsigned)session->segment_count);
-        if (burst->requests[burst->count] == NULL)
-            return;
-        burst->count++;
-    } while (burst->count < most && !burst->is_over);
+        request = take_one(session, ring, &burst->error);
+        done += OF_A_CHAIN + (unsigned)session->segment_count;
+        if (request != NULL)
+            burst->requests[burst->count++] = request;
+    } while (request != NULL && burst->count < most && done < OF_A_BURST);
+    count_out(session, ring, burst->requests, burst->count);
+    burst->is_over = part_is_over(session, done);
 }
 
-bool ring_serve(struct session *session, struct ring *ring)
+/* The driver is asked not to tell of more, unless it was. */
+static void want_no_kicks(const struct session *session, struct ring *ring)
 {
-    ring->is_due = ring->is_quiet = false;
-    if (ring->broken_by != COVRETIN_QUEUE_OK && !session->holder.has_lost)
-        break_ring(session, ring, ring->broken_by);
-    if (is_taken_of(session, ring))
-        return true;
+    if (ring->kicks != KICKS_UNWANTED && ring_is_running(session, ring))
+        ask_for_kicks(session, ring, false);
+}
+
+/* Hands out what is there, until the part of the turn is over: false. */
+static bool serve_bursts(struct session *session, struct ring *ring)
+{
     for (size_t done = 0; ring_is_running(session, ring) && session->why == COVRETIN_OK && !session->is_stopped;) {
         struct burst burst;
         take_burst(session, ring, &burst);
@@ -722,11 +850,24 @@ bool ring_serve(struct session *session, struct ring *ring)
         if (burst.error && burst.error != COVRETIN_QUEUE_NOTHING_AVAILABLE)
             break_ring(session, ring, burst.error);
         done += burst.count != 0 ? burst.count : 1;
+        if (done > 1) /* (more of them are likely to come) */
+            want_no_kicks(session, ring);
         if (done > ring->size || burst.is_over) {
             ring->is_due = true;
             return !burst.is_over;
         }
     }
+    return true;
+}
+
+bool ring_serve(struct session *session, struct ring *ring)
+{
+    ring->is_due = ring->is_quiet = false;
+    if (ring->broken_by != COVRETIN_QUEUE_OK && !session->holder.has_lost)
+        break_ring(session, ring, ring->broken_by);
+    if (!is_taken_of(session, ring))
+        return serve_bursts(session, ring);
+    want_no_kicks(session, ring);
     return true;
 }
 
@@ -901,37 +1042,56 @@ static void show_used(const struct session *session, const struct ring *ring, co
     log_ring(session, ring, used->then);
 }
 
-/* Shows the used entry of a request that is noted in an inflight region, which tells each by itself. */
-static void show_noted(const struct session *session, struct ring *ring, const struct taken *taken, const covretin_used *used)
+/* Writes the used entry of a request. One that is noted in an inflight region is shown at once, since that tells each by itself. */
+static void write_used(const struct session *session, struct ring *ring, const struct taken *taken, const covretin_used *used)
 {
+    write_bytes(used->elem.addr, used->elem_value, used->elem.len);
+    log_ring(session, ring, used->elem);
+    if (ring->inflight == NULL)
+        return;
     inflight_before_used(ring, taken);
     show_used(session, ring, used);
     inflight_after_used(ring, taken, used->then_value);
 }
 
-/* A driver sees no entry before what is shown last: of a split ring that is the last index, and of a packed one the flags of the first entry. */
-void ring_give(struct session *session, struct ring *ring, covretin_request *const *requests, const uint32_t *written, size_t count)
+/* Shows so many used entries, whose driver sees none before what is shown last: of a split ring that is the last index, and of a packed one the flags
+ * of the first entry. */
+static void show_many(const struct session *session, const struct ring *ring, const covretin_used *used, size_t count)
 {
-    covretin_used used, last;
-    bool has_last = false;
-    for (size_t i = 0; i < count; i++) {
+    for (size_t i = 1; i < count && ring->is_packed; i++)
+        show_used(session, ring, &used[i]);
+    show_used(session, ring, ring->is_packed ? used : &used[count - 1]);
+}
+
+/* Gives so many requests back by one call of the queue: how many these were. The next one is then what the queue refuses. */
+static size_t give_many(struct session *session, struct ring *ring, covretin_request *const *requests, const uint32_t *written, size_t count)
+{
+    uint16_t ids[COVRETIN_DEVICE_BURST];
+    covretin_used used[COVRETIN_DEVICE_BURST];
+    size_t done = 0;
+    for (size_t i = 0; i < count; i++)
+        ids[i] = ((const struct taken *)(const void *)requests[i])->id;
+    covretin_queue_add_used_many(&ring->queue, ids, count, written, count, used, count, &done);
+    for (size_t i = 0; i < done; i++) {
         const struct taken *taken = (const struct taken *)(const void *)requests[i];
-        if (covretin_queue_add_used(&ring->queue, taken->id, written[i], &used))
-            continue;
         if (is_logged(session))
             log_written(session, taken, written[i]);
-        write_bytes(used.elem.addr, used.elem_value, used.elem.len);
-        log_ring(session, ring, used.elem);
-        if (ring->inflight != NULL)
-            show_noted(session, ring, taken, &used);
-        else if (ring->is_packed && has_last)
-            show_used(session, ring, &used);
-        else
-            last = used;
-        has_last = true;
+        write_used(session, ring, taken, &used[i]);
     }
-    if (has_last && ring->inflight == NULL)
-        show_used(session, ring, &last);
-    if (has_last)
+    if (done != 0 && ring->inflight == NULL)
+        show_many(session, ring, used, done);
+    return done;
+}
+
+void ring_give(struct session *session, struct ring *ring, covretin_request *const *requests, const uint32_t *written, size_t count)
+{
+    size_t given = 0;
+    for (size_t at = 0; at < count;) {
+        const size_t most = count - at < COVRETIN_DEVICE_BURST ? count - at : COVRETIN_DEVICE_BURST;
+        const size_t done = give_many(session, ring, requests + at, written + at, most);
+        given += done;
+        at += done < most ? done + 1 : done; /* (what the queue refuses is left out) */
+    }
+    if (given != 0)
         tell(session, ring);
 }

@@ -36,15 +36,19 @@ struct ring {
     bool is_away;   /* it lies in no region */
     bool is_due;    /* to be looked at */
     bool is_quiet;  /* it is empty, and looked at before its driver is asked to tell of more: */
-    uint64_t shows; /* what is mapped here */
+    uint64_t shows; /* what is mapped here, where it shows what is available (0: to be asked) */
     uint16_t shown; /* is not this any more then */
+    enum { KICKS_UNKNOWN, KICKS_WANTED, KICKS_UNWANTED } kicks; /* as its driver was asked last */
     bool is_quick;  /* the last request came soon after it was empty, */
     uint64_t empty; /* which was at this time, in nanoseconds */
     int kick;       /* -1: none */
     struct bell call, error;
     struct space *space; /* in which the ring is mapped */
-    uint64_t used;       /* where the used ring of a split queue is mapped */
-    uint16_t available;  /* how many heads may be taken before the index is read again */
+    covretin_range table; /* where its descriptors are mapped, */
+    uint64_t used;       /* and the used ring of a split queue */
+    uint16_t available;  /* how many heads may be read before its index is read again, */
+    uint16_t heads[COVRETIN_DEVICE_BURST]; /* and those that were, */
+    size_t head_at, head_count;            /* of which these are still to be taken */
     size_t out;          /* requests that the device has */
     uint8_t *inflight;   /* its area of the inflight region; NULL: none */
     uint64_t counter;    /* of what was taken */
@@ -56,14 +60,15 @@ struct ring {
     struct kept kept;             /* of the chain that is followed */
 };
 
-/* A request that the device has, or what is kept for one: then the next that is. */
+/* How many descriptors of a chain are copied at a time; and how many segments a request has at most that is kept for others, and of how many
+ * requests that is. */
+enum { COPIES = 64, KEPT_SEGMENTS = 4, MOST_KEPT = 2 * COVRETIN_DEVICE_BURST };
+
+/* A request that the device has, or what is kept for one. */
 struct taken {
     covretin_request request;
     struct session *session;
-    union {
-        struct space *space;
-        struct taken *next;
-    };
+    struct space *space;
     struct kept kept;
     uint16_t id;
     uint16_t room, part_count; /* for so many segments, and so many parts */
@@ -118,15 +123,17 @@ struct session {
     uint32_t first;      /* and the ring that is served first */
     enum covretin_error why; /* it ended; 0: it goes on */
     int empty; /* a file of no bytes */
-    covretin_segment segments[COVRETIN_DEVICE_MAX_QUEUE_SIZE]; /* of the chain that is followed */
+    covretin_segment segments[COVRETIN_DEVICE_MAX_QUEUE_SIZE]; /* of the chain that is followed, */
     size_t segment_count;
-    struct taken *spare; /* what is kept for requests of few segments, */
-    size_t spare_count;  /* and of how many */
+    covretin_descriptor copies[COPIES]; /* and its descriptors */
+    struct taken *spare[MOST_KEPT]; /* what is kept for requests of few segments, */
+    size_t spare_count;             /* and of how many */
 };
 
-/* How long calls are served in a turn, and then rings, in nanoseconds; after both no queue is polled any more. And how much is done
- * between two looks at the time, as descriptors of requests: a chain of few costs less than a look. */
-enum { PART = 400000, TURN = 2 * PART, LOOK_AFTER = 64 };
+/* How long calls are served in a turn, and then rings, in nanoseconds; after both no queue is polled any more. And how much is done between two
+ * looks at the time, as descriptors of requests: a chain of few costs less than a look. A chain counts as so many more, and no burst goes on beyond
+ * so many. */
+enum { PART = 400000, TURN = 2 * PART, LOOK_AFTER = 64, OF_A_CHAIN = 8, OF_A_BURST = 512 };
 
 /* The time, in nanoseconds. */
 uint64_t time_now(void);
@@ -170,6 +177,9 @@ void ring_move(struct session *session, struct ring *ring);
 
 /* The ring has no kick any more. */
 void ring_drop_kick(const struct session *session, struct ring *ring);
+
+/* Whoever goes on with the ring finds that its driver tells of more, and need not ask for that. */
+void ring_leave(const struct session *session, struct ring *ring);
 
 /* Stops, and closes what belongs to a start. None of its requests is out, or the session has ended. */
 void ring_stop(struct session *session, struct ring *ring);

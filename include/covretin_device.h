@@ -130,7 +130,7 @@ typedef struct covretin_device_calls {
 
     /* A bit for each queue, the lowest for queue 0. The kit does not hand out the requests of a queue whose bit is set. You take one when you
      * have something for it, as a network card does when it has a frame. Until then you hold none, so whoever stops the queue does not have
-     * to wait. */
+     * to wait. Its driver is asked to kick only once you found fewer requests than you wanted. */
     uint64_t taken_queues;
 
     /* For how many microseconds the kit looks at an empty queue before it waits for the next kick; with 0 it does not look. A driver that makes

@@ -74,17 +74,23 @@ static struct space *space_made(void)
     return made;
 }
 
-void space_release(struct space *space)
+void space_release_many(struct space *space, size_t count)
 {
     if (space == NULL)
         return;
-    HOLDS(space->users != 0, "it has a user");
-    if (--space->users != 0)
+    HOLDS(space->users != 0 && space->users >= count, "it has so many users");
+    space->users -= count;
+    if (space->users != 0)
         return;
     for (size_t i = 0; i < MOST_REGIONS + 1; i++)
         if (i < space->count)
             mapping_release(space->mappings[i]);
     free(space);
+}
+
+void space_release(struct space *space)
+{
+    space_release_many(space, 1);
 }
 
 /* -- Rings, which a check of theirs has by itself -- */
@@ -104,6 +110,12 @@ void ring_drop_kick(const struct session *session, struct ring *ring)
     if (ring->kick >= 0)
         fd_gone(ring->kick);
     ring->kick = -1;
+}
+
+void ring_leave(const struct session *session, struct ring *ring)
+{
+    HOLDS(session->frontend.opaque != NULL, "its frontend is there");
+    HOLDS(!ring->is_started || ring->space == NULL || ring->space->users != 0, "what it lies in is mapped");
 }
 
 void ring_stop(struct session *session, struct ring *ring)

@@ -26,10 +26,18 @@ static enum covretin_queue_error any_error(void)
 
 /* -- The proved part, as its contracts have it -- */
 
+/* Of a packed ring this is a place in its table. */
+static covretin_range packed_table;
+
 enum covretin_queue_error covretin_queue_available_place(covretin_queue *queue, covretin_range *place)
 {
     (void)queue;
     any_range(place, 2);
+    if (packed_table.len != 0) {
+        uint16_t at = any_u16();
+        GIVEN(at < packed_table.len / 16);
+        place->addr = packed_table.addr + 16 * at + 14;
+    }
     return any_error();
 }
 

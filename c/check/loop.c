@@ -150,7 +150,7 @@ void taken_drop(struct session *session, struct taken *taken)
 
 void taken_free_kept(struct session *session)
 {
-    HOLDS(session->spare == NULL, "nothing is kept");
+    HOLDS(session->spare_count == 0, "nothing is kept");
 }
 
 bool signals_prepare(void)

@@ -287,8 +287,8 @@ void check_spaces(void)
             HOLDS(mappings[i].users == (i == without ? 2 : 3), "each has a user more");
         for (size_t i = 0; i < more; i++)
             HOLDS(space->mappings[stay + i] == added[i] && added[i]->users == 2, "these are its own");
-        space->users++;
-        space_release(space);
+        space->users += 2;
+        space_release_many(space, 2);
         HOLDS(freed == 0, "it has a user still");
         space_release(space);
         HOLDS(freed == 1, "it is freed once");

@@ -112,17 +112,23 @@ enum covretin_queue_error covretin_queue_step(covretin_queue *queue, const covre
     return any_error();
 }
 
-enum covretin_queue_error covretin_queue_head_place(covretin_queue *queue, covretin_range *place)
+/* One head at least, and no more than are wanted. */
+enum covretin_queue_error covretin_queue_heads_place(covretin_queue *queue, size_t most, covretin_range *place)
 {
     (void)queue;
-    any_range(place, 2);
+    size_t count = any_size();
+    HOLDS(most != 0, "some are wanted");
+    GIVEN(count >= 1 && count <= most);
+    any_range(place, 2 * count);
+    HOLDS(place->len <= sizeof guest, "they lie in the guest's memory");
     return any_error();
 }
 
-enum covretin_queue_error covretin_queue_pop(covretin_queue *queue, uint16_t head)
+enum covretin_queue_error covretin_queue_take(covretin_queue *queue, uint16_t value, const covretin_descriptor *copies, size_t copies_len,
+                                              covretin_segment *segments, size_t segments_len, covretin_walked *walked)
 {
-    (void)queue, (void)head;
-    return any_error();
+    (void)value;
+    return any_bool() ? COVRETIN_QUEUE_NOTHING_AVAILABLE : covretin_queue_walk(queue, copies, copies_len, segments, segments_len, walked);
 }
 
 enum covretin_queue_error covretin_queue_resubmit(covretin_queue *queue, uint16_t head)
@@ -137,14 +143,32 @@ enum covretin_queue_error covretin_queue_resubmit_packed(covretin_queue *queue)
     return any_error();
 }
 
-enum covretin_queue_error covretin_queue_add_used(covretin_queue *queue, uint16_t id, uint32_t len, covretin_used *used)
+/* Which requests are given back, and with which lengths, by check_ring_give; and how many of them were. */
+static struct {
+    const struct taken *taken;
+    const uint32_t *lens;
+    size_t at;
+} gives;
+
+/* As many as it gives back are told, and what it refuses is the next. */
+enum covretin_queue_error covretin_queue_add_used_many(covretin_queue *queue, const uint16_t *ids, size_t ids_len, const uint32_t *lens, size_t lens_len,
+                                                       covretin_used *used, size_t used_len, size_t *done)
 {
-    (void)queue, (void)id, (void)len;
-    any_range(&used->elem, any_bool() ? 8 : 4);
-    used->elem_value = any_u64();
-    any_range(&used->then, 2);
-    used->then_value = any_u16();
-    return any_error();
+    (void)queue;
+    HOLDS(__CPROVER_r_ok(ids, ids_len * sizeof *ids) && __CPROVER_r_ok(lens, lens_len * sizeof *lens), "the requests are there");
+    HOLDS(__CPROVER_w_ok(used, used_len * sizeof *used) && lens_len >= ids_len && used_len >= ids_len, "there is room for each");
+    HOLDS(lens == gives.lens + gives.at && ids[0] == gives.taken[gives.at].id, "each goes by its own id, and its own length");
+    *done = any_size();
+    GIVEN(*done <= ids_len);
+    gives.at += *done < ids_len ? *done + 1 : *done;
+    for (size_t i = 0; i < COVRETIN_DEVICE_BURST; i++)
+        if (i < *done) {
+            any_range(&used[i].elem, any_bool() ? 8 : 4);
+            used[i].elem_value = any_u64();
+            any_range(&used[i].then, 2);
+            used[i].then_value = any_u16();
+        }
+    return *done == ids_len ? COVRETIN_QUEUE_OK : COVRETIN_QUEUE_NOT_HANDED_OUT;
 }
 
 /* -- The inflight region: c/check/inflight.c checks that -- */
@@ -273,7 +297,10 @@ static struct ring *any_ring(bool is_packed)
     ring->size = any_u16();
     GIVEN(ring->size >= 1 && ring->size <= COVRETIN_DEVICE_MAX_QUEUE_SIZE);
     ring->used = (uint64_t)(uintptr_t)guest;
-    ring->shows = (uint64_t)(uintptr_t)guest;
+    ring->table = (covretin_range){(uint64_t)(uintptr_t)guest_table, 16 * (uint64_t)ring->size};
+    packed_table = is_packed ? ring->table : (covretin_range){0, 0};
+    ring->shows = is_packed ? any_bool() ? ring->table.addr + 14 : 0 : (uint64_t)(uintptr_t)guest;
+    ring->kicks = any_bool() ? KICKS_UNKNOWN : any_bool() ? KICKS_WANTED : KICKS_UNWANTED;
     ring->empty = any_u64();
     ring->space = session.space;
     ring->space->users++;
@@ -321,24 +348,68 @@ void check_ring_life(void)
     ring_move(&session, ring);
     if (ring->is_started)
         (void)ring_is_running(&session, ring);
+    ring_leave(&session, ring);
+    HOLDS(!ring->is_started || ring->is_away || ring->kicks != KICKS_UNWANTED || session.holder.has_lost, "its driver tells of more");
     ends(ring);
 }
 
-/* Any chain: of a split ring, of a packed one, and of one whose descriptors are kept. Each descriptor is read where it lies, and each segment has
- * a place. */
+/* Any chain, from where it goes on: of a split ring, of a packed one, and of one whose descriptors are kept. Each descriptor is read where it lies, and
+ * each segment has a place. */
 void check_ring_chain(void)
 {
     struct ring *ring = any_ring(LAYOUT != 0);
+    struct chain chain = {.is_indirect = any_bool()};
     uint16_t id = 0;
     ring->inflight = LAYOUT == 2 ? area : NULL;
     __CPROVER_havoc_object(guest_table);
-    enum covretin_queue_error error = read_chain(&session, ring, &id, LAYOUT == 2 && any_bool());
+    any_table(&chain.walked.table);
+    enum covretin_queue_error error = LAYOUT == 2 ? follow_kept(&session, ring, &id, any_bool()) : follow(&session, ring, &chain);
     HOLDS(session.segment_count <= COVRETIN_DEVICE_MAX_QUEUE_SIZE, "each segment has a place");
     if (!error && session.segment_count > 1)
         REACHED("followed");
     if (error == COVRETIN_QUEUE_CHAIN_TOO_LONG)
         REACHED("too long");
     ends(ring);
+}
+
+/* What that shows of the rest of a chain. */
+enum covretin_queue_error any_follow(struct session *of, struct ring *ring, struct chain *chain)
+{
+    HOLDS(of == &session && ring == &session.rings[1], "the ring's session");
+    ring->shows = ring->shows != 0 && any_bool() ? ring->table.addr + 14 : ring->shows;
+    chain->id = any_u16();
+    return any_error();
+}
+
+/* A chain that begins anywhere, or nowhere. Behind it the next one begins in the ring. */
+void check_ring_begin(void)
+{
+    struct ring *ring = any_ring(LAYOUT == 1);
+    uint16_t id;
+    __CPROVER_havoc_object(guest_table);
+    enum covretin_queue_error error = take_chain(&session, ring, LAYOUT == 1, any_u16(), any_u16(), &id);
+    HOLDS(session.segment_count <= COVRETIN_DEVICE_MAX_QUEUE_SIZE, "each segment has a place");
+    HOLDS(LAYOUT != 1 || ring->shows == 0 || ring->shows - ring->table.addr < ring->table.len, "the next chain begins in the ring");
+    if (!error)
+        REACHED("taken");
+    ends(ring);
+}
+
+/* And what both show of a chain that is taken. */
+enum covretin_queue_error any_chain(struct session *of, struct ring *ring, bool is_packed, uint16_t value, uint16_t at, uint16_t *id)
+{
+    (void)value, (void)at;
+    HOLDS(of == &session && is_packed == ring->is_packed, "a chain of its ring");
+    *id = any_u16();
+    return any_error();
+}
+
+enum covretin_queue_error any_kept(struct session *of, struct ring *ring, uint16_t *id, bool again)
+{
+    (void)again;
+    HOLDS(of == &session && ring->is_packed, "a chain of its ring");
+    *id = any_u16();
+    return any_error();
 }
 
 /* What is copied of a table. */
@@ -360,6 +431,9 @@ static struct ring *any_ring_with_requests(bool is_packed)
     ring->is_broken = any_bool();
     ring->broken_by = any_error();
     ring->available = any_u16();
+    ring->head_count = any_size();
+    ring->head_at = any_size();
+    GIVEN(ring->head_count <= COVRETIN_DEVICE_BURST && ring->head_at <= ring->head_count);
     ring->is_quick = any_bool();
     ring->again_count = any_bool();
     ring->again = calloc(1, sizeof *ring->again);
@@ -377,11 +451,13 @@ static struct ring *any_ring_with_requests(bool is_packed)
 void check_ring_next(void)
 {
     struct ring *ring = any_ring_with_requests(LAYOUT == 1);
-    uint16_t id = 0, had = ring->available;
+    uint16_t id = 0;
+    const size_t had = ring->head_count - ring->head_at;
     bool again;
     enum covretin_queue_error error = take(&session, ring, &id, &again);
     HOLDS(!again || ring->again_at == 1, "each that was taken before is taken again once");
-    HOLDS(again || error || had == 0 || ring->available == had - 1, "it is counted off");
+    HOLDS(ring->head_at <= ring->head_count && ring->head_count <= COVRETIN_DEVICE_BURST, "the heads that were read are there");
+    HOLDS(again || error || LAYOUT == 1 || had == 0 || ring->head_count - ring->head_at == had - 1, "it is counted off");
     if (!error)
         REACHED("taken");
     ends(ring);
@@ -405,18 +481,22 @@ bool any_more(const struct session *of, struct ring *ring)
     return any_bool();
 }
 
-/* And what check_ring_hand_out shows of a request that is counted, */
-covretin_request *any_count_out(struct session *of, struct ring *ring, uint16_t id, bool again)
+/* And what check_ring_hand_out shows of a request that is made, and of many that are counted. */
+struct taken *any_taken(struct session *of, struct ring *ring, uint16_t id, bool again)
 {
     static struct taken taken;
     (void)id, (void)again;
     HOLDS(of == &session && ring == &session.rings[1] && locks_held == 1, "the ring's session, which is locked");
-    if (session.why == COVRETIN_OK && any_bool())
-        session.why = COVRETIN_OUT_OF_MEMORY;
-    return session.why == COVRETIN_OK ? &taken.request : NULL;
+    return any_bool() ? &taken : NULL;
 }
 
-/* by itself, or by many, as check_ring_take shows of these. */
+void any_count_out(struct session *of, struct ring *ring, covretin_request *const *requests, size_t count)
+{
+    HOLDS(of == &session && ring == &session.rings[1] && locks_held == 1, "the ring's session, which is locked");
+    HOLDS(count <= COVRETIN_DEVICE_BURST && __CPROVER_r_ok(requests, count * sizeof *requests), "they are there");
+}
+
+/* What check_ring_take shows of requests that are taken. */
 void any_burst(struct session *of, struct ring *ring, struct burst *burst)
 {
     static covretin_request request;
@@ -484,8 +564,10 @@ void check_ring_hand_out(void)
     for (size_t i = 0; i < LAYOUT; i++)
         any_segment(&session.segments[i]);
     is_counting = true;
-    covretin_request *request = count_out(&session, ring, any_u16(), any_bool());
-    if (request != NULL) {
+    struct taken *taken = taken_new(&session, ring, any_u16(), any_bool());
+    if (taken != NULL) {
+        covretin_request *request = &taken->request;
+        count_out(&session, ring, &request, 1);
         REACHED("counted");
         HOLDS(request == &room.taken.request && room.taken.part_count == request->writable && request->queue == 1, "its parts, and its ring");
         HOLDS(request->readable + request->writable == LAYOUT, "each of its segments");
@@ -493,8 +575,7 @@ void check_ring_hand_out(void)
         HOLDS((uint8_t *)room.taken.parts == (uint8_t *)room.parts, "its parts lie behind its segments");
         space_release(room.taken.space);
         ring_count_in(&session, ring, 1);
-    } else
-        HOLDS(session.why == COVRETIN_OUT_OF_MEMORY, "the session ends");
+    }
     ends(ring);
 }
 
@@ -507,9 +588,9 @@ void check_ring_kept(void)
     REACHED("found");
     session.spare_count = any_bool() ? MOST_KEPT : 0;
     taken_drop(&session, taken);
-    session.spare_count -= session.spare == NULL && session.spare_count != 0 ? MOST_KEPT : 0;
+    HOLDS(session.spare_count <= MOST_KEPT, "no more are kept than there is room for");
     taken_free_kept(&session);
-    HOLDS(session.spare == NULL, "nothing is kept");
+    HOLDS(session.spare_count == 0, "nothing is kept");
 }
 
 /* And what c/check/rings.c shows of a driver that is told. */
@@ -521,13 +602,16 @@ void any_tell(struct session *of, struct ring *ring)
 /* So many requests are given back: what is written lies where the queue says, and the area of the inflight region hears of each. */
 void check_ring_give(void)
 {
-    static struct taken taken[2];
-    covretin_request *const requests[] = {&taken[0].request, &taken[1].request};
-    const uint32_t written[] = {any_u32(), any_u32()};
+    static struct taken taken[3];
+    covretin_request *const requests[] = {&taken[0].request, &taken[1].request, &taken[2].request};
+    const uint32_t written[] = {any_u32(), any_u32(), any_u32()};
     struct ring *ring = any_ring(any_bool());
-    taken[0].id = any_u16();
-    taken[1].id = any_u16();
+    for (size_t i = 0; i < 3; i++)
+        taken[i].id = any_u16();
+    gives.taken = taken;
+    gives.lens = written;
     ring_give(&session, ring, requests, written, LAYOUT);
+    HOLDS(gives.at == LAYOUT, "each is given back, or refused");
     REACHED("given back");
     ends(ring);
 }

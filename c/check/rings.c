@@ -47,6 +47,8 @@ void check_kicks(void)
     struct ring *ring = any_ring();
     if (any_bool())
         ring_kicked(&session, ring);
+    if (any_bool())
+        want_no_kicks(&session, ring);
     (void)is_to_go_on(&session, ring);
     REACHED("asked");
 }

@@ -1964,6 +1964,77 @@ static void wait_for_flags(const struct queue *queue, uint16_t wanted)
     EXPECT(wanted, *word_at(queue, 2, 0));
 }
 
+/* What the driver of the first queue was asked for as each burst of it was handed out. And whether the device then wants one of the second queue. */
+static struct {
+    const uint16_t *flags;
+    uint16_t seen[MOST_KEPT];
+    bool takes;
+} asked;
+
+static void on_requests_that_look(void *own, covretin_request *const *requests, size_t count)
+{
+    covretin_request *none = NULL;
+    if (got.bursts < MOST_KEPT)
+        asked.seen[got.bursts] = *asked.flags;
+    if (asked.takes)
+        EXPECT(0, covretin_requests_take(requests[0], 1, &none, 1));
+    on_requests(own, requests, count);
+}
+
+/* A driver is asked for no kicks while more than a burst is there. */
+static void expect_kicks_of_bursts(struct queue *queue)
+{
+    covretin_vring place = place_of(queue, 0);
+    asked.flags = word_at(queue, 2, 0);
+    asked.takes = false;
+    DONE(covretin_ask_set_vring_num(&vmm.session, 0, 64));
+    DONE(covretin_ask_set_vring_addr(&vmm.session, 0, &place));
+    for (uint16_t at = 0; at < COVRETIN_DEVICE_BURST + 8; at++) {
+        put(queue, at, GUEST + BUFFERS + at * 0x100u, 0x80, WRITE, 0);
+        *word_at(queue, 1, 4 + at * 2u) = at;
+    }
+    *word_at(queue, 1, 2) = queue->posted = COVRETIN_DEVICE_BURST + 8;
+    DONE(covretin_ask_set_vring_kick(&vmm.session, 0, queue->kick));
+    DONE(covretin_ask_set_vring_enable(&vmm.session, 0, true));
+    wait_for(&its.served, COVRETIN_DEVICE_BURST + 8);
+    EXPECT(true, got.bursts == 2 && asked.seen[0] == 0 && asked.seen[1] == 1);
+    wait_for_flags(queue, 0);
+}
+
+/* Nor is it of a queue that the device takes of, until that finds too few. Whoever goes on with a queue finds that kicks are wanted: after the queue was
+ * stopped, and after the session has ended. */
+static void asks_for_kicks_where_it_waits(void)
+{
+    covretin_device_calls table = bursts_of(2);
+    table.requests = on_requests_that_look;
+    begin(&table);
+    negotiate(0);
+    make_memory();
+    give_memory();
+    struct queue first = make_queue(0), second = make_queue(1);
+    expect_kicks_of_bursts(&first);
+    start(&second, 0);
+    wait_for_flags(&second, 1);
+    asked.takes = true;
+    *word_at(&first, 1, 4 + first.posted * 2u) = 0;
+    *word_at(&first, 1, 2) = (uint16_t)(first.posted + 1);
+    EXPECT(0, eventfd_write(first.kick, 1));
+    wait_for(&its.served, COVRETIN_DEVICE_BURST + 9);
+    wait_for_flags(&second, 0);
+    EXPECT(0, eventfd_write(second.kick, 1));
+    wait_for_flags(&second, 1);
+    EXPECT(0, number(covretin_ask_get_vring_base(&vmm.session, 1)));
+    EXPECT(0, *word_at(&second, 2, 0));
+    start(&second, 0);
+    wait_for_flags(&second, 1);
+    covretin_device_stop(&device);
+    end_as(COVRETIN_STOPPED);
+    EXPECT(0, *word_at(&second, 2, 0));
+    free_queue(&first);
+    free_queue(&second);
+    free_memory();
+}
+
 /* This thread, and those that it begins, use one processor alone. What they could use before. */
 static cpu_set_t keep_to_one_processor(void)
 {
@@ -2510,6 +2581,7 @@ int main(void)
     RUN(polls_a_quick_driver);
     RUN(leaves_the_only_processor);
     RUN(waits_for_a_late_driver);
+    RUN(asks_for_kicks_where_it_waits);
     RUN(closes_amid_a_request);
     RUN(bears_anything_in_a_split_queue);
     RUN(bears_anything_in_a_packed_queue);
