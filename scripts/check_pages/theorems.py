@@ -143,6 +143,17 @@ def all_types():
     return found
 
 
+@functools.cache
+def nameable(crate):
+    """The crates whose types one names: itself, and those that it depends on."""
+    rows = re.findall(rf"^{crate}\b[^:\n]*:(.*)$", text_of(f"{TOP}/crates.txt"), re.M)
+    return {crate, *" ".join(rows).split()}
+
+
+def crate_at(path):
+    return os.path.relpath(path, f"{TOP}/crates").split(os.sep)[0]
+
+
 def in_rust(path, rest, name):
     """The type or constant that a name in a source is of: itself, or its variant's."""
     for word in [*rest, name]:
@@ -178,7 +189,8 @@ def words_in(lines):
 
 
 def reached_from(path, item):
-    """The definitions that the text of one names. A type in Rattle names others by names that only one has, or one in its file."""
+    """The definitions that the text of one names. A type in Rattle names others by names that only one has, or one that its crate may name, or one in
+    its file."""
     if path.endswith(".rt"):
         lines = [line.partition("//")[0] for line in types_in(path)[item]]
         # (a struct's own parts are no one's to read)
@@ -186,6 +198,8 @@ def reached_from(path, item):
         code = " ".join(line for line in lines if not hides or re.match(r"\s*pub ", line))
         for word in set(re.findall(r"\w+", code)):
             places = all_types().get(word, [])
+            if len(places) > 1:
+                places = [place for place in places if crate_at(place[0]) in nameable(crate_at(path))]
             yield next((place for place in places if place[0] == path), places[0] if len(places) == 1 else None)
         return
     module = module_at(path)

@@ -1,0 +1,4 @@
+pub mod Calling
+pub mod Keeping
+pub mod Whose
+pub mod Serving
