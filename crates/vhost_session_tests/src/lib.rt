@@ -23,3 +23,5 @@ mod promises;
 mod retries;
 #[cfg(test)]
 mod served;
+#[cfg(test)]
+mod standard_asking;
